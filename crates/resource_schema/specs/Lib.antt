@@ -1,0 +1,4 @@
+pub mod Forms
+pub mod Kinds
+pub mod SchemaLaws
+pub mod SchemaRules

@@ -1,0 +1,17 @@
+//! What a schema says: types with their attributes and relationships, the values of attributes, and the places in an
+//! order. All are plain data, whose fields contracts and definitions name.
+#![tactic(auto)]
+
+mod faults;
+mod kinds;
+mod schema;
+mod targets;
+#[cfg(test)]
+mod tests;
+mod values;
+
+pub use faults::{SchemaFault, Why};
+pub use kinds::{Attribute, Kind, Relationship};
+pub use schema::Schema;
+pub use targets::Target;
+pub use values::{AttrValue, Form, Place, copy_values};
