@@ -1,8 +1,8 @@
 -- The order of cell keys.
-use Rattle.std.specs.Prelude.{◌≡◌, ℕ, [], refl}
+use Rattle.std.specs.Prelude.{◌≡◌, ℕ, Bool, [], refl}
 use Rattle.std.proofs.Common.{sym, ap}
 use Rattle.std.specs.declared.cmp.Ordering.{Ordering}
-use Rattle.std.specs.Ordering.{nat_cmp, then_cmp, on}
+use Rattle.std.specs.Ordering.{nat_cmp, then_cmp, on, eq_by_cmp}
 use Rattle.std.specs.Cmp.{IsTotalOrder, nat_cmp_total, then_total, on_total}
 use Rattle.std.specs.FinMap.{IsAntisymmetric, nat_cmp-IsAntisymmetric}
 use Rattle.ident_rules.specs.declared.key.Key.{Key}
@@ -38,6 +38,9 @@ last_number (Counter n) = n
 -- by variant, and then by the fields as they stand
 abbrev pub cell_key_cmp : CellKey → CellKey → Ordering
 cell_key_cmp = then_cmp (on variant_of nat_cmp) (then_cmp (on first_key key_cmp) (then_cmp (on second_key key_cmp) (on last_number nat_cmp)))
+
+abbrev pub same_cell_key : CellKey → CellKey → Bool
+same_cell_key = eq_by_cmp cell_key_cmp
 
 pub cell_key_cmp_total : IsTotalOrder cell_key_cmp
 cell_key_cmp_total =

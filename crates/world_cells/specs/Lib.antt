@@ -1,1 +1,3 @@
 pub mod CellOrder
+pub mod Reads
+pub mod World
