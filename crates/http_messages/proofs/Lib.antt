@@ -1,0 +1,2 @@
+mod DraftLemmas
+mod Examples

@@ -1,0 +1,81 @@
+ghost use Rattle.outer_ends.specs.Causes.{HasCause, KeepsCause};
+ghost use Rattle.outer_ends.specs.Streams.{Sends};
+ghost use Rattle.http_messages.specs.Draft.{AddsText};
+ghost use Rattle.http_messages.specs.ReplyText.{length_line, location_line, start_text, reply_text};
+
+use crate::Reply;
+use crate::draft::Draft;
+use crate::lines::{allow_of, body_of, closing_of, content_of, reason_of};
+use ident_rules::Text;
+use itoa::Buffer;
+use outer_ends::{Failed, Sink};
+
+/// Adds the lines that every reply has, and the one that tells what its body is.
+fn add_start<K: Sink>(draft: &mut Draft, reply: &Reply, sink: &mut K)
+    ensures text { AddsText (K.written sink.old) (K.written sink.new) draft.old draft.new (start_text reply.now) }
+    ensures cause { KeepsCause (K.faults sink.old) (K.faults sink.new) draft.old.sent draft.new.sent }
+{
+    let mut status = Buffer::new();
+    draft.add(b"HTTP/1.1 ", sink);
+    draft.add(status.format(reply.status).as_bytes(), sink);
+    draft.add(b" ", sink);
+    draft.add(reason_of(reply.status), sink);
+    draft.add(b"\r\nVary: Accept\r\n", sink);
+    draft.add(content_of(reply.content), sink);
+}
+
+/// Adds the line that tells the body's length.
+fn add_length<K: Sink>(draft: &mut Draft, status: u16, length: usize, sink: &mut K)
+    ensures text { AddsText (K.written sink.old) (K.written sink.new) draft.old draft.new (length_line status length) }
+    ensures cause { KeepsCause (K.faults sink.old) (K.faults sink.new) draft.old.sent draft.new.sent }
+{
+    if status == 204 {
+        draft.add(b"", sink);
+        return;
+    }
+    let mut digits = Buffer::new();
+    draft.add(b"Content-Length: ", sink);
+    draft.add(digits.format(length).as_bytes(), sink);
+    draft.add(b"\r\n", sink);
+}
+
+/// Adds the line that tells a place.
+fn add_location<K: Sink>(draft: &mut Draft, location: &Option<Text>, sink: &mut K)
+    ensures text { AddsText (K.written sink.old) (K.written sink.new) draft.old draft.new (location_line location.now) }
+    ensures cause { KeepsCause (K.faults sink.old) (K.faults sink.new) draft.old.sent draft.new.sent }
+{
+    match location {
+        None => draft.add(b"", sink),
+        Some(text) => {
+            draft.add(b"Location: ", sink);
+            draft.add(text.as_str().as_bytes(), sink);
+            draft.add(b"\r\n", sink);
+        }
+    }
+}
+
+/// Writes the reply: without its body for a HEAD request, and with the line that closes the
+/// connection where it does.
+///
+/// It takes no memory. A text of at most 4,096 bytes leaves in one piece; in a longer one the head
+/// leaves first, and then the body. After `Failed` a proper prefix of the text was written.
+#[tactic(auto, unfolding(crate::specs::ReplyText::reply_text))]
+pub fn send_reply<K: Sink>(
+    reply: &Reply,
+    head_only: bool,
+    close: bool,
+    sink: &mut K,
+) -> Result<(), Failed>
+    ensures sends { Sends (K.written sink.old) (K.written sink.new) (reply_text reply.now head_only close) result }
+    ensures cause { HasCause (K.faults sink.old) (K.faults sink.new) result }
+{
+    let mut draft = Draft::new();
+    add_start(&mut draft, reply, sink);
+    add_length(&mut draft, reply.status, reply.body.as_slice().len(), sink);
+    add_location(&mut draft, &reply.location, sink);
+    draft.add(allow_of(reply.allow), sink);
+    draft.add(closing_of(close), sink);
+    draft.add(b"\r\n", sink);
+    draft.add(body_of(reply, head_only), sink);
+    draft.finish(sink)
+}
