@@ -1,9 +1,9 @@
 -- A value that was read stands in byte order.
-use Rattle.std.proofs.Common.{◌≡◌, ◌<◌, ◌≤◌, ℕ, arith, List, Option, Some, None, option_map, option_and_then, IfSome, true, false, if◌then◌else◌, Bool, subst, refl}
+use Rattle.std.proofs.Common.{◌≡◌, ◌<◌, ◌≤◌, ℕ, arith, List, Option, Some, None, option_map, option_and_then, IfSome, true, false, if◌then◌else◌, Bool, subst}
 use Rattle.std.specs.Str.{is_utf8}
 use Rattle.json.specs.Lex.{tokens}
 use Rattle.json.specs.Json as json
-use Rattle.serde_json.specs.Data.{Data, number, array, object, Items, item, Members, no_members, member, put, depth}
+use Rattle.serde_json.specs.Data.{Data, number, array, object, item, Members, no_members, put, depth}
 use Rattle.serde_json.specs.Read.{read, number_of, of_json, of_items, of_members, max_depth}
 use Rattle.serde_json.proofs.Nesting.{depth-read}
 use Rattle.json_forms.specs.Json.{json_of}
