@@ -1,0 +1,13 @@
+//! Refusals of requests: the codes with what they say, what is to blame, and the error documents that are sent for
+//! them (JSON:API 1.1, "Errors").
+#![tactic(auto)]
+
+mod codes;
+mod refusals;
+mod replies;
+#[cfg(test)]
+mod tests;
+
+pub use codes::Code;
+pub use refusals::{Blame, Read, Refusal};
+pub use replies::error_reply;

@@ -1,0 +1,18 @@
+//! What requests ask of the store: tasks and their parts as plain data, the entries of a history, and the two traits
+//! between connections and the store: who decides what a message asks for, and who answers tasks.
+#![tactic(auto)]
+
+mod desk;
+mod operations;
+mod planner;
+mod queries;
+mod tasks;
+#[cfg(test)]
+mod tests;
+
+pub use desk::{Desk, DeskEnd};
+pub use operations::{Member, Named, Operation, Where, Who};
+pub use planner::Planner;
+pub use queries::{Page, Path, Query, SortKey};
+pub use resource_schema::Target;
+pub use tasks::{Entry, Fetch, Plan, ReplyForm, Task};
