@@ -9,9 +9,10 @@ use ident_rules::{Bytes, NoMemory};
 use serde_json::Value;
 use std::alloc::Global;
 
-/// The text of a value that holds no float (RFC 8259, section 2), without space, with members in byte order of their names.
+/// The text of a value that holds no float (RFC 8259, section 2), without space, with the members as the value has them.
 ///
-/// `parse` gives the value back, unless it nests deeper than 127. The one error is `NoMemory`.
+/// Where the value nests at most 127 deep, they stand in byte order of their names, and `parse` gives the value back.
+/// The one error is `NoMemory`.
 pub fn render(alloc: Global, value: &Value) -> Result<Bytes, NoMemory>
     requires { has_float (view value.now) ≡ false }
     ensures text { IfOk result (λ b. b ≡ compact_text (view value.now)) }
