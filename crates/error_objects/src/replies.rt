@@ -1,4 +1,4 @@
-ghost use Rattle.std.specs.Prelude.{◌≡◌, IfOk, option_map};
+ghost use Rattle.std.specs.Prelude.{◌≡◌, IfOk, Some, None, option_map};
 ghost use Rattle.serde_json.specs.View.{view};
 ghost use Rattle.error_objects.specs.ErrorReply.{error_reply, error_document, error_object, source_of};
 ghost use Rattle.error_objects.specs.Codes.{told};
@@ -22,18 +22,32 @@ fn source_value(alloc: Global, blame: &Blame) -> Result<Option<Value>, NoMemory>
     }
 }
 
-/// The error object of a code and a source.
-fn error_object(alloc: Global, code: Code, source: Option<Value>) -> Result<Value, NoMemory>
-    ensures { IfOk result (λ v. view v ≡ error_object (told code) (option_map view source)) }
+/// The error object of a code that blames nothing.
+fn bare_error(alloc: Global, code: Code) -> Result<Value, NoMemory>
+    ensures { IfOk result (λ v. view v ≡ error_object (told code) None) }
 {
     let mut digits = itoa::Buffer::new();
     let status = digits.format(code.status());
     let (word, title) = (code.word(), code.title());
+    Ok(json!(in alloc; {"code": word, "status": status, "title": title})?)
+}
+
+/// The error object of a code and a source.
+fn sourced_error(alloc: Global, code: Code, source: Value) -> Result<Value, NoMemory>
+    ensures { IfOk result (λ v. view v ≡ error_object (told code) (Some (view source))) }
+{
+    let mut digits = itoa::Buffer::new();
+    let status = digits.format(code.status());
+    let (word, title) = (code.word(), code.title());
+    Ok(json!(in alloc; {"code": word, "source": source, "status": status, "title": title})?)
+}
+
+fn error_object(alloc: Global, code: Code, source: Option<Value>) -> Result<Value, NoMemory>
+    ensures { IfOk result (λ v. view v ≡ error_object (told code) (option_map view source)) }
+{
     match source {
-        None => Ok(json!(in alloc; {"code": word, "status": status, "title": title})?),
-        Some(source) => {
-            Ok(json!(in alloc; {"code": word, "source": source, "status": status, "title": title})?)
-        }
+        None => bare_error(alloc, code),
+        Some(source) => sourced_error(alloc, code, source),
     }
 }
 

@@ -7,7 +7,7 @@ use std::marker::Model;
 
 /// The name of a type or a field: 1 to 64 letters, digits, `_` or `-`, with a letter or a digit first and last. A
 /// rule of this project within the member names of JSON:API 1.1 ("Member Names").
-#[derive(Clone, Copy)]
+#[derive(Clone, Copy, Debug)]
 pub struct Name {
     text: Id,
 }

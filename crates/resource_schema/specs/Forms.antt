@@ -1,5 +1,6 @@
 -- What values an attribute may have.
-use Rattle.std.specs.Prelude.{ℕ, ℤ, pos, negsuc, ◌^◌, Bool, true, false, nat_lt, nat_le, length}
+use Rattle.std.specs.Prelude.{ℕ, ℤ, pos, negsuc, ◌^◌, Bool, true, false, IsTrue, nat_lt, nat_le, length}
+use Rattle.resource_schema.specs.declared.kinds.Attribute.{Attribute}
 use Rattle.resource_schema.specs.declared.values.Form.{Form}
 use Rattle.resource_schema.specs.declared.values.Form.TheVariants as form
 use Rattle.resource_schema.specs.declared.values.AttrValue.{AttrValue}
@@ -25,3 +26,7 @@ is_of f v = false
 abbrev pub has_form : Form → Bool → AttrValue → Bool
 has_form f nullable value.Null = nullable
 has_form f nullable v = is_of f v
+
+-- a value of an attribute
+abbrev pub HasForm : Attribute → AttrValue → Type 0
+HasForm a v = IsTrue (has_form a.form a.nullable v)
