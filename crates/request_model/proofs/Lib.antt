@@ -1,0 +1,10 @@
+pub mod OnLiterals
+mod Blog
+mod TargetExamples
+mod NegotiationExamples
+mod QueryExamples
+mod SchemaExamples
+mod DocumentExamples
+mod ListExamples
+mod PlanExamples
+mod LimitExamples
