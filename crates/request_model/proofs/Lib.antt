@@ -8,3 +8,8 @@ mod DocumentExamples
 mod ListExamples
 mod PlanExamples
 mod LimitExamples
+pub mod Inversions
+pub mod Zips
+pub mod Ascents
+pub mod Ordered
+pub mod SchemaFileLemmas

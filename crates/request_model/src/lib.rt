@@ -4,5 +4,7 @@
 #![tactic(auto)]
 
 mod forms;
+mod laws;
 
 pub use forms::{Act, Aim, Asked, Judged, Media, Need, Op, Param, Parameter, Quoting};
+pub use laws::read_schema_keeps_rules;
