@@ -13,3 +13,6 @@ pub mod Zips
 pub mod Ascents
 pub mod Ordered
 pub mod SchemaFileLemmas
+pub mod LinkageFits
+pub mod FieldFits
+pub mod DocumentFits
