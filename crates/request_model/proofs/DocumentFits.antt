@@ -40,9 +40,9 @@ use Rattle.error_objects.specs.Refusals.{at_pointer}
 use Rattle.request_model.specs.Words.{some_if, all_some}
 use Rattle.request_model.specs.Results.{err_if}
 use Rattle.request_model.specs.Documents.{bad_document, object_at, text_member, keeps_rule, given_values, given_links, value_or_default, all_values, kind_named, resource_kind, client_id, is_lid, local_id, create_of, name_member, same_named, own_name, lid_in, target_of_update, update_of}
-use Rattle.request_model.proofs.Inversions.{bind-Ok, then-Ok, map-Ok, err_if-Ok, ok_or-Ok, some_if-Some, all_some-zip}
+use Rattle.request_model.proofs.Inversions.{bind-Ok, then-Ok, map-Ok, err_if-Ok, negated, ok_or-Ok, some_if-Some, all_some-zip}
 use Rattle.request_model.proofs.Zips.{all-list_all, position-found}
-use Rattle.request_model.proofs.LinkageFits.{negated, rule-IsNamed, IsNamed-kind}
+use Rattle.request_model.proofs.LinkageFits.{rule-IsNamed, IsNamed-kind}
 use Rattle.request_model.proofs.FieldFits.{given_values-fit, given_links-fit}
 
 -- ---- the type
@@ -97,7 +97,11 @@ client_id-fits schema kind at (Some d) id e =
     subst (λ o. MatchOption o ⊤ (FitsClientId schema kind)) same fits
 
 lid-fits : (lid : List ℕ) → is_lid lid ≡ true → IsLid lid
-lid-fits lid e = let parts = and_parts _ _ e in (grind (arith, nat_tests, parts), grind (arith, nat_tests, parts))
+lid-fits lid e = 
+    let parts = and_parts (nat_lt 0 (length lid)) (nat_le (length lid) 64) e in
+    let some : nat_lt 0 (length lid) ≡ true = parts.0 in
+    let few : nat_le (length lid) 64 ≡ true = parts.1 in
+    (grind (arith, nat_tests, some), grind (arith, nat_tests, few))
 
 local_id-fits : (at : List ℕ) (o : Option Data) (lid : Option (List ℕ)) → local_id at o ≡ Ok lid → MatchOption lid ⊤ IsLid
 local_id-fits at None lid e = let same : lid ≡ None = cc e in rw same tt

@@ -25,6 +25,11 @@ pub err_if-Ok : {E : Type 0} (b : Bool) (r : E) (t : ⊤) → err_if b r ≡ Ok 
 err_if-Ok true r t e = cc e
 err_if-Ok false r t e = refl
 
+-- a test that is negated
+pub negated : (b : Bool) → not b ≡ false → b ≡ true
+negated true e = refl
+negated false e = cc e
+
 pub ok_or-Ok : {A E : Type 0} (o : Option A) (r : E) (x : A) → ok_or o r ≡ Ok x → o ≡ Some x
 ok_or-Ok None r x e = cc e
 ok_or-Ok (Some y) r x e = cc e

@@ -16,3 +16,5 @@ pub mod SchemaFileLemmas
 pub mod LinkageFits
 pub mod FieldFits
 pub mod DocumentFits
+pub mod TargetFits
+pub mod ListFits

@@ -26,12 +26,8 @@ use Rattle.error_objects.specs.declared.codes.Code.TheVariants as code
 use Rattle.request_model.specs.Words.{all_ok, result_map}
 use Rattle.request_model.specs.Results.{err_if}
 use Rattle.request_model.specs.Documents.{bad_document, named_by, named_in, keeps_rule, identifier, to_one, indexed, to_many, linkage}
-use Rattle.request_model.proofs.Inversions.{bind-Ok, then-Ok, map-Ok, err_if-Ok, ok_or-Ok, all_ok-zip}
+use Rattle.request_model.proofs.Inversions.{bind-Ok, then-Ok, map-Ok, err_if-Ok, negated, ok_or-Ok, all_ok-zip}
 use Rattle.request_model.proofs.Zips.{zip-length, zip-right, all-always, all-into}
-
-negated : (b : Bool) → not b ≡ false → b ≡ true
-negated true e = refl
-negated false e = cc e
 
 -- ---- names
 

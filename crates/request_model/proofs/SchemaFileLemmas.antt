@@ -24,7 +24,7 @@ use Rattle.request_model.specs.Words.{all_ok}
 use Rattle.request_model.specs.Results.{err_if}
 use Rattle.request_model.specs.Values.{value_from, plain_value}
 use Rattle.request_model.specs.SchemaFile.{form_of, many_of, fault, object_at, fields_at, flag_at, name_fault, default_at, attribute_from, relationship_from, kind_from, schema_of}
-use Rattle.request_model.proofs.Inversions.{bind-Ok, then-Ok, map-Ok, err_if-Ok, ok_or-Ok, and_then-Some, map-Some, some_if-Some, all_ok-zip}
+use Rattle.request_model.proofs.Inversions.{bind-Ok, then-Ok, map-Ok, err_if-Ok, negated, ok_or-Ok, and_then-Some, map-Some, some_if-Some, all_ok-zip}
 use Rattle.request_model.proofs.Zips.{zip-length, zip-right, zip-same, all-always, all-list_all, position-found}
 use Rattle.request_model.proofs.Ascents.{Ascends, name_of, test-from_ascends}
 use Rattle.request_model.proofs.Ordered.{object-ordered, found-ordered, get-ordered}
@@ -41,10 +41,6 @@ value_from-form f nullable d v e =
 both : (a b : Bool) → a ≡ true → b ≡ true → (a && b) ≡ true
 both true b p q = q
 both false b p q = p
-
-negated : (b : Bool) → not b ≡ false → b ≡ true
-negated true e = refl
-negated false e = cc e
 
 -- a name that has no fault
 pub name-parts : (reserved : List (List ℕ)) (place name : List ℕ) (t : ⊤) → name_fault reserved place name ≡ Ok t → (is_name name ≡ true) × (not (is_one_of reserved name) ≡ true)
