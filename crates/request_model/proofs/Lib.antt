@@ -18,3 +18,6 @@ pub mod FieldFits
 pub mod DocumentFits
 pub mod TargetFits
 pub mod ListFits
+pub mod CursorFits
+pub mod QueryFits
+pub mod PlanFits
