@@ -21,21 +21,18 @@ use Rattle.task_forms.specs.declared.queries.SortKey.{SortKey}
 use Rattle.task_forms.specs.Fit.{IsId, FitsValue, FitsCursor}
 use Rattle.request_model.specs.Words.{some_if}
 use Rattle.request_model.specs.Values.{value_from}
-use Rattle.request_model.specs.Cursors.{cursor_text, place_from, place_of_cursor}
+use Rattle.request_model.specs.Cursors.{IsPlaceOf, cursor_text, place_from, place_of_cursor}
 use Rattle.request_model.specs.Queries.{sort_forms}
+use Rattle.std.proofs.lemmas.Slice.Eq.{bytes_eq-Decides}
 use Rattle.request_model.proofs.Inversions.{bind-Some, some_if-Some}
 use Rattle.request_model.proofs.SchemaFileLemmas.{value_from-form}
 
--- a place of these forms
-abbrev pub IsOfForms : List (Form × Bool) → Place → Type 0
-IsOfForms forms place = AllZip (λ f v. has_form f.0 f.1 v ≡ true) forms place.values × (is_id place.id ≡ true)
-
-pub place_from-fits : (forms : List (Form × Bool)) (ds : List Data) (place : Place) → place_from forms ds ≡ Some place → IsOfForms forms place
+pub place_from-fits : (forms : List (Form × Bool)) (ds : List Data) (place : Place) → place_from forms ds ≡ Some place → IsPlaceOf forms place
 place_from-fits [] [] place e = cc e
 place_from-fits [] (d ∷ []) place e =
     let a = bind-Some (as_str d) _ place e in
     let b = some_if-Some (is_id a.0) (record { values = []; id = a.0 }) place a.2 in
-    subst (IsOfForms []) b.1 (tt, b.0)
+    subst (IsPlaceOf []) b.1 (tt, b.0)
 place_from-fits [] (d ∷ c ∷ ds) place e = cc e
 place_from-fits (f ∷ forms) [] place e = cc e
 place_from-fits (f ∷ forms) (d ∷ ds) place e =
@@ -43,17 +40,23 @@ place_from-fits (f ∷ forms) (d ∷ ds) place e =
     let b = bind-Some (place_from forms ds) _ place a.2 in
     let rest = place_from-fits forms ds b.0 b.1 in
     let same : record b.0 { values = a.0 ∷ b.0.values } ≡ place = cc b.2 in
-    subst (IsOfForms (f ∷ forms)) same ((value_from-form f.0 f.1 d a.0 a.1, rest.0), rest.1)
+    subst (IsPlaceOf (f ∷ forms)) same ((value_from-form f.0 f.1 d a.0 a.1, rest.0), rest.1)
 
 -- what is read as a cursor is the text of its place, and of the forms
-pub place_of_cursor-parts : (forms : List (Form × Bool)) (text : List ℕ) (place : Place) → place_of_cursor forms text ≡ Some place → IsOfForms forms place × (bytes_eq (cursor_text place) text ≡ true)
+pub place_of_cursor-parts : (forms : List (Form × Bool)) (text : List ℕ) (place : Place) → place_of_cursor forms text ≡ Some place → IsPlaceOf forms place × (bytes_eq (cursor_text place) text ≡ true)
 place_of_cursor-parts forms text place e =
     let a = bind-Some (result_ok (decode_of url_safe_no_pad text)) _ place e in
     let b = bind-Some (json_of a.0) _ place a.2 in
     let c = bind-Some (as_array b.0) _ place b.2 in
     let d = bind-Some (place_from forms (items_list c.0)) _ place c.2 in
     let f = some_if-Some (bytes_eq (cursor_text d.0) text) d.0 place d.2 in
-    subst (λ p. IsOfForms forms p × (bytes_eq (cursor_text p) text ≡ true)) f.1 (place_from-fits forms (items_list c.0) d.0 d.1, f.0)
+    subst (λ p. IsPlaceOf forms p × (bytes_eq (cursor_text p) text ≡ true)) f.1 (place_from-fits forms (items_list c.0) d.0 d.1, f.0)
+
+pub place_of_cursor-spelling : (forms : List (Form × Bool)) (text : List ℕ) (place : Place) → place_of_cursor forms text ≡ Some place → text ≡ cursor_text place
+place_of_cursor-spelling forms text place e = sym ((bytes_eq-Decides (cursor_text place) text).0 (place_of_cursor-parts forms text place e).1)
+
+pub place_of_cursor-forms : (forms : List (Form × Bool)) (text : List ℕ) (place : Place) → place_of_cursor forms text ≡ Some place → IsPlaceOf forms place
+place_of_cursor-forms forms text place e = (place_of_cursor-parts forms text place e).0
 
 -- what stands within a list is there
 pub within-found : {X : Type 0} (xs : List X) (i : ℕ) → i < length xs → (x : X) × (slice_get xs i ≡ Some x)

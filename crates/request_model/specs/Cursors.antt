@@ -1,5 +1,6 @@
 -- Cursors (Cursor Pagination profile, "Cursors"; what stands in them is of this project).
-use Rattle.std.specs.Prelude.{ℕ, Bool, List, [], ◌∷◌, ◌++◌, map, Option, Some, None}
+use Rattle.std.specs.Prelude.{ℕ, Bool, IsTrue, List, [], ◌∷◌, ◌++◌, map, Option, Some, None}
+use Rattle.std.specs.List.{AllZip}
 use Rattle.std.specs.Result.{result_ok}
 use Rattle.std.specs.Str.{bytes_eq}
 use Rattle.serde_json.specs.Data.{Data, string, array}
@@ -10,6 +11,7 @@ use Rattle.base64.specs.Engines.{url_safe_no_pad}
 use Rattle.base64.specs.GeneralPurpose.{encode_of, decode_of}
 use Rattle.resource_schema.specs.declared.values.Form.{Form}
 use Rattle.resource_schema.specs.declared.values.Place.{Place}
+use Rattle.resource_schema.specs.Forms.{has_form}
 use Rattle.request_model.specs.Words.{some_if}
 use Rattle.request_model.specs.Options.{◌>>=◌}
 use Rattle.ident_rules.specs.Id.{is_id}
@@ -19,6 +21,10 @@ use Rattle.json_forms.specs.Json.{json_of, items_list}
 -- base64url without padding (RFC 4648, section 5) of the array of the sort values and the id
 abbrev pub cursor_text : Place → List ℕ
 cursor_text place = encode_of url_safe_no_pad (compact_text (array (items_of (map value_data place.values ++ string place.id ∷ []))))
+
+-- a place with one value of each form, null where the flag says so, and an id
+abbrev pub IsPlaceOf : List (Form × Bool) → Place → Type 0
+IsPlaceOf forms place = AllZip (λ f v. IsTrue (has_form f.0 f.1 v)) forms place.values × IsTrue (is_id place.id)
 
 -- the place in an array: one value of each form, and then an id
 abbrev pub place_from : List (Form × Bool) → List Data → Option Place
