@@ -21,3 +21,4 @@ pub mod ListFits
 pub mod CursorFits
 pub mod QueryFits
 pub mod PlanFits
+pub mod Sources
