@@ -22,3 +22,4 @@ pub mod CursorFits
 pub mod QueryFits
 pub mod PlanFits
 pub mod Sources
+pub mod CursorReadBack
