@@ -1,9 +1,9 @@
 -- A cursor that was read has values of the sort's forms.
-use Rattle.std.specs.Prelude.{ℕ, ◌<◌, ◌++◌, Bool, true, false, List, [], ◌∷◌, map, length, zero, suc, Option, Some, None, MatchOption, slice_get, option_map, ⊤}
+use Rattle.std.specs.Prelude.{ℕ, ◌<◌, Bool, true, List, [], ◌∷◌, length, zero, suc, Option, Some, None, MatchOption, slice_get, option_map}
 use Rattle.std.specs.Result.{result_ok}
-use Rattle.std.specs.List.{AllZip, AllByRecursion, filter_map, cons_option}
+use Rattle.std.specs.List.{AllZip, AllByRecursion, cons_option}
 use Rattle.std.specs.Str.{bytes_eq}
-use Rattle.std.proofs.Common.{◌≡◌, refl, sym, ap, ◌∙◌, arith, subst}
+use Rattle.std.proofs.Common.{◌≡◌, refl, sym, arith, subst}
 use Rattle.serde_json.specs.Data.{Data}
 use Rattle.serde_json.specs.Find.{as_array, as_str}
 use Rattle.base64.specs.Engines.{url_safe_no_pad}
@@ -18,8 +18,7 @@ use Rattle.resource_schema.specs.declared.values.Place.{Place}
 use Rattle.resource_schema.specs.Forms.{HasForm, has_form}
 use Rattle.resource_schema.specs.Kinds.{attributes_of}
 use Rattle.task_forms.specs.declared.queries.SortKey.{SortKey}
-use Rattle.task_forms.specs.Fit.{IsId, FitsValue, FitsCursor}
-use Rattle.request_model.specs.Words.{some_if}
+use Rattle.task_forms.specs.Fit.{FitsValue, FitsCursor}
 use Rattle.request_model.specs.Values.{value_from}
 use Rattle.request_model.specs.Cursors.{IsPlaceOf, cursor_text, place_from, place_of_cursor}
 use Rattle.request_model.specs.Queries.{sort_forms}

@@ -1,17 +1,17 @@
 -- The cursor of a place is read back as the place.
-use Rattle.std.specs.Prelude.{ℕ, ℤ, pos, negsuc, ◌<◌, ◌^◌, ◌++◌, ◌+◌, Bool, true, false, nat_lt, IsTrue, IsUtf8, List, [], ◌∷◌, map, length, zero, suc, max, Option, Some, None, Result, Ok, option_map, option_and_then, get_or, ⊤}
+use Rattle.std.specs.Prelude.{ℕ, ℤ, pos, negsuc, ◌<◌, ◌^◌, ◌++◌, Bool, true, nat_lt, IsUtf8, List, [], ◌∷◌, map, suc, max, Option, Some, Ok, option_map, option_and_then, get_or}
 use Rattle.std.specs.Result.{result_ok}
 use Rattle.std.specs.List.{AllZip, AllByRecursion}
 use Rattle.std.specs.Str.{bytes_eq}
-use Rattle.std.proofs.Common.{◌≡◌, refl, sym, ap, ◌∙◌, arith, subst}
+use Rattle.std.proofs.Common.{◌≡◌, refl, ap, ◌∙◌, arith}
 use Rattle.std.proofs.lemmas.Bool.Decides.{nat_tests}
 use Rattle.std.proofs.lemmas.Slice.Eq.{bytes_eq-Decides}
-use Rattle.serde_json.specs.Data.{Data, number, string, array, Items, no_items, item, depth, items_depth}
-use Rattle.serde_json.specs.Find.{of_integer, as_i64, as_array, as_str}
+use Rattle.serde_json.specs.Data.{Data, number, string, array, depth, items_depth}
+use Rattle.serde_json.specs.Find.{of_integer, as_i64, as_array}
 use Rattle.serde_json.specs.View.{items_of}
 use Rattle.serde_json.specs.Written.{compact_text}
 use Rattle.base64.specs.Engines.{url_safe_no_pad}
-use Rattle.base64.specs.GeneralPurpose.{encode_of, decode_of, IsConsistent}
+use Rattle.base64.specs.GeneralPurpose.{decode_of, IsConsistent}
 use Rattle.base64.proofs.EngineFacts.{decode_of-encode_of}
 use Rattle.ident_rules.specs.Id.{is_id}
 use Rattle.ident_rules.specs.IdLaws.{IsUtf8-is_id}

@@ -1,5 +1,5 @@
 -- Resources that were read fit: new ones and changed ones.
-use Rattle.std.specs.Prelude.{ℕ, ◌<◌, ◌≤◌, ◌+◌, ◌&&◌, Bool, true, false, not, nat_lt, nat_le, if◌then◌else◌, IsTrue, List, [], ◌∷◌, codes, length, map, Option, Some, None, Result, Ok, Err, IfSome, MatchOption, slice_get, option_map, suc, zero, ⊤}
+use Rattle.std.specs.Prelude.{ℕ, ◌<◌, ◌+◌, Bool, true, false, not, nat_lt, nat_le, if◌then◌else◌, List, [], ◌∷◌, codes, length, Option, Some, None, Ok, Err, IfSome, MatchOption, slice_get, option_map, suc, ⊤}
 use Rattle.std.specs.Option.{ok_or, option_or, option_map_or}
 use Rattle.std.specs.List.{AllZip, AllByRecursion, list_all, enumerate_from}
 use Rattle.std.specs.Char.{is_ascii_digit}
@@ -29,20 +29,18 @@ use Rattle.task_forms.specs.declared.operations.Named.{Named}
 use Rattle.task_forms.specs.declared.operations.Named.TheVariants as named
 use Rattle.task_forms.specs.declared.operations.Where.TheVariants as stands
 use Rattle.task_forms.specs.declared.operations.Who.{Who}
-use Rattle.task_forms.specs.declared.operations.Member.{Member}
 use Rattle.task_forms.specs.declared.operations.Operation.{Operation}
 use Rattle.task_forms.specs.declared.operations.Operation.TheVariants.{Create, Update}
 use Rattle.task_forms.specs.declared.tasks.ReplyForm.TheVariants as reply_form
 use Rattle.task_forms.specs.Fit.{kind_of, IsNamed, IsLid, FitsClientId, FitsValue, FitsValues, FitsLinks, FitsCreate, FitsOperation, FitsForm}
-use Rattle.error_objects.specs.declared.refusals.Refusal.{Refusal}
 use Rattle.error_objects.specs.declared.codes.Code.TheVariants as code
 use Rattle.error_objects.specs.Refusals.{at_pointer}
-use Rattle.request_model.specs.Words.{some_if, all_some}
+use Rattle.request_model.specs.Words.{some_if}
 use Rattle.request_model.specs.Results.{err_if}
 use Rattle.request_model.specs.Documents.{bad_document, object_at, text_member, keeps_rule, given_values, given_links, value_or_default, all_values, kind_named, resource_kind, client_id, is_lid, local_id, create_of, name_member, same_named, own_name, lid_in, target_of_update, update_of}
-use Rattle.request_model.proofs.Inversions.{bind-Ok, then-Ok, map-Ok, err_if-Ok, negated, ok_or-Ok, some_if-Some, all_some-zip}
-use Rattle.request_model.proofs.Zips.{all-list_all, position-found}
-use Rattle.request_model.proofs.LinkageFits.{rule-IsNamed, IsNamed-kind}
+use Rattle.request_model.proofs.Inversions.{bind-Ok, then-Ok, map-Ok, err_if-Ok, negated, ok_or-Ok, all_some-zip}
+use Rattle.request_model.proofs.Zips.{position-found}
+use Rattle.request_model.proofs.LinkageFits.{rule-IsNamed}
 use Rattle.request_model.proofs.FieldFits.{given_values-fit, given_links-fit}
 
 -- ---- the type
@@ -97,7 +95,7 @@ client_id-fits schema kind at (Some d) id e =
     subst (λ o. MatchOption o ⊤ (FitsClientId schema kind)) same fits
 
 lid-fits : (lid : List ℕ) → is_lid lid ≡ true → IsLid lid
-lid-fits lid e = 
+lid-fits lid e =
     let parts = and_parts (nat_lt 0 (length lid)) (nat_le (length lid) 64) e in
     let some : nat_lt 0 (length lid) ≡ true = parts.0 in
     let few : nat_le (length lid) 64 ≡ true = parts.1 in
@@ -150,11 +148,12 @@ values-zip schema kind n given (a ∷ attributes) [] fits places rules z = absur
 values-zip schema kind n given (a ∷ attributes) (v ∷ values) fits places rules z =
     let parts = and_parts (is_attribute a) (list_all is_attribute attributes) rules in
     let here : n + 0 ≡ n = omega arith in
-    let place : slice_get (attributes_of schema kind) n ≡ Some a = ap (slice_get (attributes_of schema kind)) (sym here) ∙ places 0 in
-    (value-fits schema kind n a given v fits place parts.0 z.0,
-      values-zip schema kind (n + 1) given attributes values fits (λ i. ap (slice_get (attributes_of schema kind)) (moved i) ∙ places (suc i)) parts.1 z.1) where
-  moved : (i : ℕ) → (n + 1) + i ≡ n + suc i
-  moved i = omega arith
+    let place : slice_get (attributes_of schema kind) n ≡ Some a = ap (slice_get (attributes_of schema kind)) (sym here) ∙ places 0 in (
+      value-fits schema kind n a given v fits place parts.0 z.0,
+      values-zip schema kind (n + 1) given attributes values fits (λ i. ap (slice_get (attributes_of schema kind)) (moved i) ∙ places (suc i)) parts.1 z.1,
+    ) where
+      moved : (i : ℕ) → (n + 1) + i ≡ n + suc i
+      moved i = omega arith
 
 attributes-keep : (schema : Schema) (kind : ℕ) → is_schema schema ≡ true → list_all is_attribute (attributes_of schema kind) ≡ true
 attributes-keep schema kind rules = by_look (slice_get schema kind) refl where
@@ -167,8 +166,8 @@ all_values-fit : (schema : Schema) (kind : ℕ) (given : List (ℕ × AttrValue)
 all_values-fit schema kind given values rules fits e =
     values-zip schema kind 0 given (attributes_of schema kind) values fits (λ i. ap (slice_get (attributes_of schema kind)) (none i)) (attributes-keep schema kind rules)
     (all_some-zip (value_or_default given) (enumerate_from 0 (attributes_of schema kind)) values e) where
-  none : (i : ℕ) → 0 + i ≡ i
-  none i = omega arith
+      none : (i : ℕ) → 0 + i ≡ i
+      none i = omega arith
 
 -- a new resource fits, and is a Create
 pub create_of-fits : (schema : Schema) (endpoint : Option ℕ) (at : List ℕ) (d : Data) (operation : Operation) → is_schema schema ≡ true → IsInByteOrder d → IfSome endpoint (λ k. k < length schema)

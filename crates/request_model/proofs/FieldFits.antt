@@ -1,11 +1,11 @@
 -- Attributes and relationships that were read fit their type.
-use Rattle.std.specs.Prelude.{ℕ, ◌<◌, ◌≤◌, ◌&&◌, Bool, true, false, not, IsTrue, List, [], ◌∷◌, codes, length, map, filter, Option, Some, None, Result, Ok, Err, IfSome, MatchOption, slice_get, option_map, ⊤}
+use Rattle.std.specs.Prelude.{ℕ, ◌<◌, true, not, List, [], ◌∷◌, codes, length, map, filter, Option, Some, None, Ok, IfSome, MatchOption, slice_get, ⊤}
 use Rattle.std.specs.Option.{ok_or, option_map_or}
 use Rattle.std.specs.List.{AllZip, AllByRecursion, position}
 use Rattle.std.specs.Str.{bytes_eq}
-use Rattle.std.proofs.Common.{◌≡◌, refl, sym, ap, ◌∙◌, arith, subst}
+use Rattle.std.proofs.Common.{◌≡◌, refl, sym, subst}
 use Rattle.std.proofs.lemmas.Slice.Eq.{bytes_eq-Decides}
-use Rattle.serde_json.specs.Data.{Data, Members}
+use Rattle.serde_json.specs.Data.{Data}
 use Rattle.serde_json.specs.Find.{get, as_object}
 use Rattle.json_forms.specs.Json.{members_list}
 use Rattle.json_forms.specs.Order.{IsInByteOrder, IsBefore}
@@ -18,16 +18,15 @@ use Rattle.resource_schema.specs.declared.values.AttrValue.{AttrValue}
 use Rattle.resource_schema.specs.Forms.{HasForm}
 use Rattle.resource_schema.specs.Kinds.{attributes_of, relationships_of, attribute_of, relationship_of}
 use Rattle.resource_schema.specs.SchemaLaws.{kind_at}
-use Rattle.resource_schema.specs.SchemaRules.{is_schema, are_rising}
+use Rattle.resource_schema.specs.SchemaRules.{is_schema}
 use Rattle.task_forms.specs.declared.operations.Member.{Member}
 use Rattle.task_forms.specs.Fit.{AreRising, FitsValue, FitsValues, FitsLinkage, FitsLinks}
-use Rattle.error_objects.specs.declared.refusals.Refusal.{Refusal}
 use Rattle.error_objects.specs.declared.codes.Code.TheVariants as code
 use Rattle.error_objects.specs.Refusals.{at_pointer}
-use Rattle.request_model.specs.Words.{begins, all_ok}
+use Rattle.request_model.specs.Words.{begins}
 use Rattle.request_model.specs.Values.{value_from}
 use Rattle.request_model.specs.Documents.{bad_document, object_at, fields_at, given_value, given_values, given_link, given_links, linkage}
-use Rattle.request_model.proofs.Inversions.{bind-Ok, then-Ok, map-Ok, ok_or-Ok, all_ok-zip}
+use Rattle.request_model.proofs.Inversions.{bind-Ok, map-Ok, ok_or-Ok, all_ok-zip}
 use Rattle.request_model.proofs.Zips.{zip-into, zip-right, all-always, all-filter, position-found}
 use Rattle.request_model.proofs.Ascents.{Ascends, name_of, ascends-from_test, filter-ascends, place-rises}
 use Rattle.request_model.proofs.Ordered.{object-ordered, get-ordered}

@@ -1,8 +1,8 @@
 -- What a reading that succeeded tells of its parts.
-use Rattle.std.specs.Prelude.{ℕ, ◌&&◌, Bool, true, false, not, if◌then◌else◌, List, [], ◌∷◌, map, Option, Some, None, Result, Ok, Err, option_map, option_and_then, ⊤}
-use Rattle.std.specs.Option.{ok_or, option_or}
-use Rattle.std.specs.List.{AllZip, enumerate_from}
-use Rattle.std.proofs.Common.{◌≡◌, refl, ap, sym, ◌∙◌}
+use Rattle.std.specs.Prelude.{Bool, true, false, not, if◌then◌else◌, List, [], ◌∷◌, map, Option, Some, None, Result, Ok, Err, option_map, option_and_then, ⊤}
+use Rattle.std.specs.Option.{ok_or}
+use Rattle.std.specs.List.{AllZip}
+use Rattle.std.proofs.Common.{◌≡◌, refl, sym}
 use Rattle.request_model.specs.Words.{some_if, all_some, result_map, all_ok}
 use Rattle.request_model.specs.Results.{◌>>=◌, ◌>>◌, err_if}
 use Rattle.request_model.specs.Options as option

@@ -1,14 +1,13 @@
 -- A linkage that was read fits its relationship.
-use Rattle.std.specs.Prelude.{ℕ, ◌^◌, ◌+◌, ◌<◌, ◌≤◌, Bool, true, false, not, nat_le, if◌then◌else◌, IsTrue, List, [], ◌∷◌, codes, length, map, decimal, Option, Some, None, Result, Ok, Err, IfSome, slice_get, ⊤}
+use Rattle.std.specs.Prelude.{ℕ, ◌^◌, ◌+◌, ◌<◌, Bool, true, false, not, nat_le, if◌then◌else◌, List, [], ◌∷◌, codes, length, map, decimal, Option, Some, None, Ok, IfSome, slice_get, ⊤}
 use Rattle.std.specs.Option.{ok_or, option_map_or}
 use Rattle.std.specs.List.{AllZip, AllByRecursion, enumerate_from}
 use Rattle.std.specs.Str.{bytes_eq}
-use Rattle.std.proofs.Common.{◌≡◌, refl, sym, ap, ◌∙◌, arith}
+use Rattle.std.proofs.Common.{◌≡◌, refl, sym, ◌∙◌, arith}
 use Rattle.std.proofs.lemmas.Bool.Decides.{nat_tests}
 use Rattle.std.proofs.lemmas.List.FromFn.{length-enumerate_from}
 use Rattle.serde_json.specs.Data.{Data, null, boolean, number, string, array, object}
 use Rattle.serde_json.specs.Find.{as_array}
-use Rattle.ident_rules.specs.Id.{is_id}
 use Rattle.json_forms.specs.Json.{items_list, text_at}
 use Rattle.json_forms.specs.Pointer.{◌//◌}
 use Rattle.resource_schema.specs.declared.schema.Schema.{Schema}
@@ -20,7 +19,6 @@ use Rattle.task_forms.specs.declared.operations.Named.{Named}
 use Rattle.task_forms.specs.declared.operations.Named.TheVariants as named
 use Rattle.task_forms.specs.declared.operations.Member.{Member}
 use Rattle.task_forms.specs.Fit.{kind_of, IsNamed, AreIndexed, FitsCount, FitsLinkage}
-use Rattle.error_objects.specs.declared.refusals.Refusal.{Refusal}
 use Rattle.error_objects.specs.Refusals.{at_pointer}
 use Rattle.error_objects.specs.declared.codes.Code.TheVariants as code
 use Rattle.request_model.specs.Words.{all_ok, result_map}
@@ -101,14 +99,15 @@ to_many-fits schema kind at d members known e =
     let a = bind-Ok (ok_or (as_array d) (bad_document at)) _ members e in
     let b = then-Ok (err_if (nat_le (2 ^ 32) (length (items_list a.0))) (bad_document at)) _ members a.2 in
     many-fits (items_list a.0) members (err_if-Ok (nat_le (2 ^ 32) (length (items_list a.0))) (bad_document at) b.0 b.1) b.2 where
-  many-fits : (ds : List Data) (members : List Member) → nat_le (2 ^ 32) (length ds) ≡ false → all_ok (map (indexed schema kind at) (enumerate_from 0 ds)) ≡ Ok members
-      → AllByRecursion (λ m. IsOf schema kind m.named) members × FitsCount true members
-  many-fits ds members few e =
-      let z = all_ok-zip (indexed schema kind at) (enumerate_from 0 ds) members e in
-      let long : length members ≡ length ds = zip-length _ (enumerate_from 0 ds) members z ∙ length-enumerate_from 0 ds in
-      let count : length ds < 2 ^ 32 = below (2 ^ 32) (length ds) few in
-      (zip-right (λ p. ⊤) _ (λ m. IsOf schema kind m.named) (enumerate_from 0 ds) members (λ p m t q. (indexed-fits schema kind at p m known q).1) (all-always (λ p. ⊤) (enumerate_from 0 ds) (λ p. tt)) z,
-        (rw long count, are_indexed _ 0 ds members (λ p m q. (indexed-fits schema kind at p m known q).0) z))
+      many-fits : (ds : List Data) (members : List Member) → nat_le (2 ^ 32) (length ds) ≡ false → all_ok (map (indexed schema kind at) (enumerate_from 0 ds)) ≡ Ok members
+          → AllByRecursion (λ m. IsOf schema kind m.named) members × FitsCount true members
+      many-fits ds members few e =
+          let z = all_ok-zip (indexed schema kind at) (enumerate_from 0 ds) members e in
+          let long : length members ≡ length ds = zip-length _ (enumerate_from 0 ds) members z ∙ length-enumerate_from 0 ds in
+          let count : length ds < 2 ^ 32 = below (2 ^ 32) (length ds) few in (
+            zip-right (λ p. ⊤) _ (λ m. IsOf schema kind m.named) (enumerate_from 0 ds) members (λ p m t q. (indexed-fits schema kind at p m known q).1) (all-always (λ p. ⊤) (enumerate_from 0 ds) (λ p. tt)) z,
+            (rw long count, are_indexed _ 0 ds members (λ p m q. (indexed-fits schema kind at p m known q).0) z),
+          )
 
 by_count : (schema : Schema) (kind : ℕ) (many : Bool) (at : List ℕ) (d : Data) (members : List Member) → kind < length schema
     → (if many then to_many schema kind at d else to_one schema kind at d) ≡ Ok members

@@ -1,12 +1,12 @@
 -- Lists of operations that were read fit.
-use Rattle.std.specs.Prelude.{ℕ, ◌+◌, ◌<◌, ◌≤◌, ◌==◌, Bool, true, false, not, nat_lt, if◌then◌else◌, IsTrue, List, [], ◌∷◌, codes, length, map, decimal, is_some, Option, Some, None, Result, Ok, Err, IfSome, slice_get, option_map, ⊤}
+use Rattle.std.specs.Prelude.{ℕ, ◌+◌, ◌<◌, ◌≤◌, ◌==◌, Bool, true, false, not, nat_lt, if◌then◌else◌, List, [], ◌∷◌, codes, length, map, decimal, Option, Some, None, Ok, Err, IfSome, slice_get, option_map, ⊤}
 use Rattle.std.specs.Option.{ok_or, option_map_or}
-use Rattle.std.specs.List.{AllZip, AllByRecursion, enumerate_from}
+use Rattle.std.specs.List.{AllByRecursion, enumerate_from}
 use Rattle.std.specs.Str.{bytes_eq}
 use Rattle.std.proofs.Common.{◌≡◌, refl, sym, ap, ◌∙◌, arith, subst}
 use Rattle.std.proofs.lemmas.Bool.Decides.{nat_tests}
 use Rattle.std.proofs.lemmas.List.FromFn.{length-enumerate_from}
-use Rattle.serde_json.specs.Data.{Data, Items}
+use Rattle.serde_json.specs.Data.{Data}
 use Rattle.serde_json.specs.Find.{get, as_array, as_str}
 use Rattle.json_forms.specs.Json.{items_list, text_at}
 use Rattle.json_forms.specs.Order.{IsInByteOrder}
@@ -17,7 +17,6 @@ use Rattle.resource_schema.specs.declared.targets.Target.{Target}
 use Rattle.resource_schema.specs.declared.targets.Target.TheVariants as target
 use Rattle.resource_schema.specs.Kinds.{number_of_kind, relationship_of, relationships_of, is_many}
 use Rattle.resource_schema.specs.SchemaRules.{is_schema}
-use Rattle.task_forms.specs.declared.operations.Named.{Named}
 use Rattle.task_forms.specs.declared.operations.Where.TheVariants as stands
 use Rattle.task_forms.specs.declared.operations.Who.{Who}
 use Rattle.task_forms.specs.declared.operations.Member.{Member}
@@ -25,7 +24,6 @@ use Rattle.task_forms.specs.declared.operations.Operation.{Operation}
 use Rattle.task_forms.specs.declared.operations.Operation.TheVariants.{Remove, SetLinks, AddLinks, DropLinks}
 use Rattle.task_forms.specs.declared.tasks.ReplyForm.TheVariants as reply_form
 use Rattle.task_forms.specs.Fit.{kind_of, IsNamed, IsMany, FitsLinkage, FitsOperation, FitsForm}
-use Rattle.error_objects.specs.declared.refusals.Refusal.{Refusal}
 use Rattle.error_objects.specs.declared.codes.Code.TheVariants as code
 use Rattle.error_objects.specs.Refusals.{at_pointer}
 use Rattle.request_model.specs.declared.forms.Op.{Op}
@@ -38,7 +36,7 @@ use Rattle.request_model.specs.Words.{all_ok, result_map}
 use Rattle.request_model.specs.Results.{err_if}
 use Rattle.request_model.specs.Targets.{target_of_path}
 use Rattle.request_model.specs.Documents.{bad_document, object_at, named_in, keeps_rule, linkage}
-use Rattle.request_model.specs.OperationLists.{op_at, optional_text, aim_of_ref, ref_aim, aim_of_target, href_aim, aim_by, if_many, act_of, aim_pointer, with_data, operation_by, operation_of, absent, list_pointer, operations_of}
+use Rattle.request_model.specs.OperationLists.{op_at, optional_text, aim_of_ref, ref_aim, aim_of_target, href_aim, aim_by, if_many, act_of, with_data, operation_by, operation_of, absent, list_pointer, operations_of}
 use Rattle.request_model.proofs.Inversions.{bind-Ok, then-Ok, map-Ok, err_if-Ok, negated, ok_or-Ok, all_ok-zip}
 use Rattle.request_model.proofs.Zips.{zip-length, zip-right, position-found}
 use Rattle.request_model.proofs.Ordered.{array-ordered, found-ordered, get-ordered}
@@ -203,13 +201,14 @@ operations_of-fit schema d operations rules order e =
     let kept : IsInByteOrder g.0 = found-ordered (codes "atomic:operations") d g.0 order (ok_or-Ok (get (codes "atomic:operations") d) (bad_document []) g.0 g.1) in
     let items = array-ordered g.0 h.0 kept (ok_or-Ok (as_array g.0) (bad_document list_pointer) h.0 h.1) in
     list-fits (items_list h.0) items (err_if-Ok _ (bad_document list_pointer) i.0 i.1) (err_if-Ok _ (at_pointer code.TooManyOperations list_pointer) j.0 j.1) j.2 where
-  list-fits : (ds : List Data) → AllByRecursion IsInByteOrder ds → (length ds == 0) ≡ false → nat_lt 1000 (length ds) ≡ false
-      → all_ok (map (λ p. operation_of schema (list_pointer // decimal p.0) p.1) (enumerate_from 0 ds)) ≡ Ok operations
-      → AllByRecursion (FitsOperation schema) operations × FitsForm reply_form.Results operations
-  list-fits ds items some few e =
-      let z = all_ok-zip (λ p. operation_of schema (list_pointer // decimal p.0) p.1) (enumerate_from 0 ds) operations e in
-      let long : length operations ≡ length ds = zip-length _ (enumerate_from 0 ds) operations z ∙ length-enumerate_from 0 ds in
-      let first : 1 ≤ length ds = grind (arith, nat_tests, some) in
-      let last : length ds ≤ 1000 = grind (arith, nat_tests, few) in
-      (zip-right (λ p. IsInByteOrder p.1) _ (FitsOperation schema) (enumerate_from 0 ds) operations (λ p o order q. operation_of-fits schema (list_pointer // decimal p.0) p.1 o rules order q) (enumerated 0 ds items) z,
-        (subst (λ n. 1 ≤ n) (sym long) first, subst (λ n. n ≤ 1000) (sym long) last))
+      list-fits : (ds : List Data) → AllByRecursion IsInByteOrder ds → (length ds == 0) ≡ false → nat_lt 1000 (length ds) ≡ false
+          → all_ok (map (λ p. operation_of schema (list_pointer // decimal p.0) p.1) (enumerate_from 0 ds)) ≡ Ok operations
+          → AllByRecursion (FitsOperation schema) operations × FitsForm reply_form.Results operations
+      list-fits ds items some few e =
+          let z = all_ok-zip (λ p. operation_of schema (list_pointer // decimal p.0) p.1) (enumerate_from 0 ds) operations e in
+          let long : length operations ≡ length ds = zip-length _ (enumerate_from 0 ds) operations z ∙ length-enumerate_from 0 ds in
+          let first : 1 ≤ length ds = grind (arith, nat_tests, some) in
+          let last : length ds ≤ 1000 = grind (arith, nat_tests, few) in (
+            zip-right (λ p. IsInByteOrder p.1) _ (FitsOperation schema) (enumerate_from 0 ds) operations (λ p o order q. operation_of-fits schema (list_pointer // decimal p.0) p.1 o rules order q) (enumerated 0 ds items) z,
+            (subst (λ n. 1 ≤ n) (sym long) first, subst (λ n. n ≤ 1000) (sym long) last),
+          )

@@ -1,9 +1,8 @@
 -- A task that a plan gives is fit.
-use Rattle.std.specs.Prelude.{ℕ, ◌<◌, ◌||◌, Bool, true, false, not, if◌then◌else◌, List, [], ◌∷◌, codes, length, Option, Some, None, Result, Ok, Err, ⊤}
+use Rattle.std.specs.Prelude.{ℕ, ◌||◌, Bool, true, false, not, if◌then◌else◌, List, [], ◌∷◌, codes, Some, Result, Ok, Err}
 use Rattle.std.specs.Option.{ok_or}
-use Rattle.std.specs.List.{AllByRecursion, list_any}
 use Rattle.std.specs.Str.{bytes_eq}
-use Rattle.std.proofs.Common.{◌≡◌, refl, sym, ap, ◌∙◌, subst}
+use Rattle.std.proofs.Common.{◌≡◌, refl, sym, subst}
 use Rattle.std.proofs.lemmas.Slice.Eq.{bytes_eq-Decides}
 use Rattle.serde_json.specs.Data.{Data}
 use Rattle.serde_json.specs.Find.{get}
@@ -16,24 +15,22 @@ use Rattle.json_forms.specs.Order.{IsInByteOrder}
 use Rattle.resource_schema.specs.declared.schema.Schema.{Schema}
 use Rattle.resource_schema.specs.declared.targets.Target.{Target}
 use Rattle.resource_schema.specs.declared.targets.Target.TheVariants as target
-use Rattle.resource_schema.specs.Kinds.{is_many, relationships_of}
+use Rattle.resource_schema.specs.Kinds.{is_many}
 use Rattle.resource_schema.specs.SchemaRules.{is_schema, is_one_of}
 use Rattle.task_forms.specs.declared.operations.Member.{Member}
 use Rattle.task_forms.specs.declared.operations.Operation.{Operation}
 use Rattle.task_forms.specs.declared.operations.Operation.TheVariants.{Remove, SetLinks, AddLinks, DropLinks}
-use Rattle.task_forms.specs.declared.queries.Query.{Query}
 use Rattle.task_forms.specs.declared.tasks.ReplyForm.{ReplyForm}
 use Rattle.task_forms.specs.declared.tasks.ReplyForm.TheVariants as reply_form
 use Rattle.task_forms.specs.declared.tasks.Task.{Task}
 use Rattle.task_forms.specs.declared.tasks.Task.TheVariants as task
-use Rattle.task_forms.specs.declared.tasks.Plan.TheVariants.{Fixed, Run}
-use Rattle.task_forms.specs.Fit.{IsNamed, IsKnownKey, IsMany, FitsLinkage, FitsOperation, FitsForm, IsFit}
+use Rattle.task_forms.specs.declared.tasks.Plan.TheVariants.{Run}
+use Rattle.task_forms.specs.Fit.{IsKnownKey, IsMany, FitsLinkage, FitsOperation, FitsForm, IsFit}
 use Rattle.error_objects.specs.declared.codes.Code.TheVariants as code
 use Rattle.error_objects.specs.declared.refusals.Refusal.{Refusal}
 use Rattle.error_objects.specs.Refusals.{refusal, at_header}
-use Rattle.request_model.specs.Words.{result_map}
 use Rattle.request_model.specs.Results.{err_if}
-use Rattle.request_model.specs.Targets.{split_target, target_of_path, allow_of, allows, methods, need_of}
+use Rattle.request_model.specs.Targets.{split_target, target_of_path, allow_of, allows, need_of}
 use Rattle.request_model.specs.Negotiation.{content, acceptable}
 use Rattle.request_model.specs.Queries.{pairs_of, query_of, no_parameter}
 use Rattle.request_model.specs.Documents.{bad_document, create_of, update_of, linkage}
@@ -45,7 +42,7 @@ use Rattle.request_model.proofs.LinkageFits.{linkage-fits}
 use Rattle.request_model.proofs.TargetFits.{IsKnown, target-known}
 use Rattle.request_model.proofs.DocumentFits.{create_of-fits, update_of-fits}
 use Rattle.request_model.proofs.ListFits.{many-from_test, operations_of-fit}
-use Rattle.request_model.proofs.QueryFits.{QueryFits, query_of-fits, fetch-fits}
+use Rattle.request_model.proofs.QueryFits.{query_of-fits, fetch-fits}
 
 or_reply-Ok : {A : Type 0} (r : Result A Refusal) (x : A) → or_reply r ≡ Ok x → r ≡ Ok x
 or_reply-Ok (Ok y) x e = cc e
@@ -146,11 +143,11 @@ task_of-fits order schema m t query asked rules known allowed e =
     let a = then-Ok (judged (content m.fields (need_of (allow_of schema t) m.method))) _ asked e in
     let b = then-Ok (err_if (not (acceptable m.fields)) (at_header code.NotAcceptable (codes "Accept"))) _ asked a.2 in
     by_method (is_fetch m.method) refl b.2 where
-  by_method : (b : Bool) → is_fetch m.method ≡ b → (if b then fetch_of schema t query else change_without_query schema m.method m.body t query) ≡ Ok asked → IsFit schema asked
-  by_method true is e = fetch_of-fits schema t query m.method asked known allowed is e
-  by_method false is e =
-      let c = then-Ok (none_or_err (no_parameter (pairs_of query))) _ asked e in
-      change_of-fits order schema m.method m.body t asked rules known allowed c.2
+      by_method : (b : Bool) → is_fetch m.method ≡ b → (if b then fetch_of schema t query else change_without_query schema m.method m.body t query) ≡ Ok asked → IsFit schema asked
+      by_method true is e = fetch_of-fits schema t query m.method asked known allowed is e
+      by_method false is e =
+          let c = then-Ok (none_or_err (no_parameter (pairs_of query))) _ asked e in
+          change_of-fits order schema m.method m.body t asked rules known allowed c.2
 
 run-Ok : (r : Result Task Reply) (t : Task) → plan_by r ≡ Run t → r ≡ Ok t
 run-Ok (Ok x) t e = cc e

@@ -1,11 +1,11 @@
 -- Queries that were read fit their target.
-use Rattle.std.specs.Prelude.{ℕ, ◌-◌, ◌<◌, ◌^◌, ◌&&◌, ◌++◌, Bool, true, false, not, nat_le, nat_lt, if◌then◌else◌, IsTrue, List, [], ◌∷◌, codes, length, map, drop, is_some, Option, Some, None, Result, Ok, IfSome, MatchOption, slice_get, option_map, ⊤}
-use Rattle.std.specs.Option.{ok_or, option_map_or}
-use Rattle.std.specs.List.{AllZip, AllByRecursion, list_all}
+use Rattle.std.specs.Prelude.{ℕ, ◌<◌, ◌^◌, ◌&&◌, ◌++◌, Bool, true, false, nat_le, nat_lt, if◌then◌else◌, IsTrue, List, [], ◌∷◌, codes, length, map, drop, is_some, Option, Some, None, Ok, IfSome, MatchOption, slice_get, ⊤}
+use Rattle.std.specs.Option.{option_map_or}
+use Rattle.std.specs.List.{AllByRecursion, list_all}
 use Rattle.std.specs.Char.{is_ascii_digit}
 use Rattle.std.specs.Str.{bytes_eq}
 use Rattle.std.specs.Str.Parse.{digits_value}
-use Rattle.std.proofs.Common.{◌≡◌, refl, sym, ap, ◌∙◌, arith, subst}
+use Rattle.std.proofs.Common.{◌≡◌, refl, arith, subst}
 use Rattle.std.proofs.lemmas.Bool.Decides.{nat_tests}
 use Rattle.std.proofs.lemmas.Bool.{and_parts}
 use Rattle.resource_schema.specs.declared.schema.Schema.{Schema}
@@ -18,11 +18,8 @@ use Rattle.resource_schema.specs.Kinds.{number_of_kind, attributes_of, attribute
 use Rattle.task_forms.specs.declared.queries.Path.{Path}
 use Rattle.task_forms.specs.declared.queries.SortKey.{SortKey}
 use Rattle.task_forms.specs.declared.queries.Query.{Query}
-use Rattle.task_forms.specs.declared.tasks.Fetch.{Fetch}
-use Rattle.task_forms.specs.Fit.{FollowsFrom, FitsCursor, FitsQuery, FitsRelated, IsBare, FitsFetch}
-use Rattle.error_objects.specs.declared.codes.Code.{Code}
+use Rattle.task_forms.specs.Fit.{FollowsFrom, FitsCursor, FitsQuery, IsBare, FitsFetch}
 use Rattle.error_objects.specs.declared.codes.Code.TheVariants as code
-use Rattle.error_objects.specs.declared.refusals.Refusal.{Refusal}
 use Rattle.error_objects.specs.Refusals.{at_parameter}
 use Rattle.request_model.specs.declared.forms.Asked.{Asked}
 use Rattle.request_model.specs.declared.forms.Parameter.{Parameter}

@@ -1,5 +1,5 @@
 -- A refusal names the source that its code asks for.
-use Rattle.std.specs.Prelude.{ℕ, ◌^◌, ◌==◌, ◌&&◌, ◌++◌, Bool, true, false, not, nat_le, nat_lt, if◌then◌else◌, List, [], ◌∷◌, codes, length, map, decimal, is_some, Option, Some, None, Result, Ok, Err, IfErr, MatchOption, slice_get, option_map, ⊤}
+use Rattle.std.specs.Prelude.{ℕ, ◌^◌, ◌==◌, ◌&&◌, Bool, true, false, not, nat_le, nat_lt, if◌then◌else◌, List, [], ◌∷◌, codes, length, map, decimal, is_some, Option, Some, None, Result, Ok, Err, IfErr, slice_get, option_map, ⊤}
 use Rattle.std.specs.Option.{ok_or}
 use Rattle.std.specs.List.{enumerate_from, list_all}
 use Rattle.std.specs.Char.{is_ascii_digit}
@@ -9,7 +9,7 @@ use Rattle.serde_json.specs.Data.{Data, null, boolean, number, string, array, ob
 use Rattle.serde_json.specs.Find.{get, as_array, as_object, as_str}
 use Rattle.ident_rules.specs.Id.{is_id}
 use Rattle.http_messages.specs.declared.messages.Message.{Message}
-use Rattle.json_forms.specs.Json.{json_of, items_list, members_list, text_at}
+use Rattle.json_forms.specs.Json.{json_of, items_list, text_at}
 use Rattle.json_forms.specs.Pointer.{◌//◌}
 use Rattle.resource_schema.specs.declared.schema.Schema.{Schema}
 use Rattle.resource_schema.specs.declared.values.Form.{Form}
@@ -20,7 +20,6 @@ use Rattle.task_forms.specs.declared.operations.Named.{Named}
 use Rattle.task_forms.specs.declared.operations.Where.TheVariants as stands
 use Rattle.task_forms.specs.declared.operations.Who.{Who}
 use Rattle.task_forms.specs.declared.operations.Member.{Member}
-use Rattle.task_forms.specs.declared.operations.Operation.{Operation}
 use Rattle.task_forms.specs.declared.operations.Operation.TheVariants.{SetLinks, AddLinks, DropLinks}
 use Rattle.task_forms.specs.Fit.{kind_of}
 use Rattle.error_objects.specs.declared.codes.Code.TheVariants as code
@@ -37,19 +36,16 @@ use Rattle.request_model.specs.declared.forms.Aim.{Aim}
 use Rattle.request_model.specs.declared.forms.Aim.TheVariants as aim
 use Rattle.request_model.specs.declared.forms.Act.{Act}
 use Rattle.request_model.specs.declared.forms.Act.TheVariants as act
-use Rattle.resource_schema.specs.declared.kinds.Attribute.{Attribute}
-use Rattle.task_forms.specs.declared.tasks.Task.TheVariants as task
-use Rattle.task_forms.specs.declared.tasks.ReplyForm.TheVariants as reply_form
 use Rattle.request_model.specs.Cursors.{place_of_cursor}
 use Rattle.request_model.specs.Words.{result_map, all_ok}
 use Rattle.request_model.specs.Results.{◌>>=◌, ◌>>◌, err_if}
 use Rattle.request_model.specs.Values.{value_from}
 use Rattle.request_model.specs.Targets.{target_of_path, allow_of, need_of}
 use Rattle.request_model.specs.Negotiation.{content, acceptable}
-use Rattle.request_model.specs.Queries.{pairs_of, query_of, no_parameter, known_parameter, or_bad, with_parameter, with_query, has_name, primary_kind, with_pair, with_pairs, sort_forms, place_at, paths_of, field_set_of, in_brackets, sort_keys_of, page_size_of, no_query, first_page}
+use Rattle.request_model.specs.Queries.{pairs_of, query_of, no_parameter, known_parameter, or_bad, with_parameter, has_name, primary_kind, with_pair, with_pairs, sort_forms, place_at, paths_of, field_set_of, in_brackets, sort_keys_of, page_size_of, no_query}
 use Rattle.request_model.specs.Documents.{bad_document, object_at, text_member, fields_at, named_in, keeps_rule, identifier, to_one, indexed, to_many, linkage, given_value, given_values, given_link, given_links, all_values, kind_named, resource_kind, client_id, is_lid, local_id, create_of, name_member, same_named, own_name, lid_in, target_of_update, update_of}
-use Rattle.request_model.specs.OperationLists.{op_of, op_at, optional_text, aim_of_ref, ref_aim, aim_of_target, href_aim, aim_by, if_many, act_of, aim_pointer, linked, with_data, operation_by, operation_of, absent, list_pointer, operations_of}
-use Rattle.request_model.specs.Plans.{body_value, primary_data, change, by_path, links_operation, data_pointer, update_task, change_of, judged, is_fetch, none_or_err, fetch_of, change_without_query, task_of, is_list}
+use Rattle.request_model.specs.OperationLists.{op_of, op_at, optional_text, aim_of_ref, ref_aim, href_aim, aim_by, if_many, act_of, with_data, operation_by, operation_of, absent, list_pointer, operations_of}
+use Rattle.request_model.specs.Plans.{body_value, primary_data, by_path, data_pointer, update_task, change_of, judged, is_fetch, none_or_err, fetch_of, change_without_query, task_of, is_list}
 
 -- ---- errors of readings, by their parts
 
@@ -163,9 +159,9 @@ module _ (in_list : Bool) where
   resource_kind-sourced schema endpoint at d without =
       then-err Sourced (object_at at d) _ (object_at-sourced at d)
       (bind-err Sourced (text_member at (codes "type") d) _ (text_member-sourced at (codes "type") d) (λ name. by_endpoint endpoint name without)) where
-    by_endpoint : (o : Option ℕ) (name : List ℕ) → ListWithout o → IfErr (kind_named schema o at name) Sourced
-    by_endpoint (Some kind) name w = test-err Sourced (bytes_eq name (kind_name schema kind)) (Ok kind) (Err (at_pointer code.TypeMismatch (at // codes "type"))) tt tt
-    by_endpoint None name w = ok_or-err Sourced (number_of_kind schema name) (at_pointer code.NotFound (at // codes "type")) (not_found (at // codes "type") w)
+        by_endpoint : (o : Option ℕ) (name : List ℕ) → ListWithout o → IfErr (kind_named schema o at name) Sourced
+        by_endpoint (Some kind) name w = test-err Sourced (bytes_eq name (kind_name schema kind)) (Ok kind) (Err (at_pointer code.TypeMismatch (at // codes "type"))) tt tt
+        by_endpoint None name w = ok_or-err Sourced (number_of_kind schema name) (at_pointer code.NotFound (at // codes "type")) (not_found (at // codes "type") w)
 
   client_id-sourced : (schema : Schema) (kind : ℕ) (at : List ℕ) (o : Option Data) → IfErr (client_id schema kind at o) Sourced
   client_id-sourced schema kind at None = tt
