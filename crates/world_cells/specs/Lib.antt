@@ -1,3 +1,4 @@
 pub mod CellOrder
+pub mod Lists
 pub mod Reads
 pub mod World
