@@ -6,7 +6,6 @@ use Rattle.error_objects.specs.declared.codes.Code.{Code}
 use Rattle.error_objects.specs.declared.codes.Code.TheVariants as code
 use Rattle.error_objects.specs.Refusals.{refusal, at_pointer, at_parameter, at_header}
 use Rattle.error_objects.specs.ErrorReply.{error_reply}
-use Rattle.error_objects.specs.Codes.{told}
 
 -- the body of a refusal that blames nothing
 abbrev bare : Code → List ℕ

@@ -1,4 +1,4 @@
--- Histories, what their entries write, conflicts and passes.
+-- Histories: the worlds in them, what their entries write, conflicts and passes (all of this project).
 use Rattle.std.specs.Prelude.{◌≡◌, ◌≢◌, ℕ, ◌+◌, ◌-◌, ◌<◌, ◌≤◌, ◌==◌, ◌||◌, ◌⊎◌, Bool, false, if◌then◌else◌, IsTrue, List, [], ◌∷◌, take, length, Some, None, Option, MatchOption, ⊤}
 use Rattle.world_cells.specs.declared.keys.CellKey.{CellKey}
 use Rattle.world_cells.specs.declared.sets.ReadSet.{ReadSet}
@@ -7,28 +7,13 @@ use Rattle.task_forms.specs.declared.tasks.Task.{Task}
 use Rattle.world_cells.specs.World.{World}
 use Rattle.world_cells.specs.Reads.{Cells, covers}
 use Rattle.world_cells.specs.Lists.{IsIn}
-use Rattle.task_forms.specs.Meaning.{Meaning}
+use Rattle.task_forms.specs.Meaning.{Meaning, world_after, IsLegal}
 
 -- ---- worlds of a history
-
--- the world after these entries
-abbrev pub world_after : Meaning → World → List Entry → World
-world_after m w [] = w
-world_after m w (e ∷ entries) = world_after m (m.effect w e.task) entries
 
 -- The world after the entries up to a number. The first entry has the number first + 1.
 abbrev pub world_at : Meaning → ℕ → World → List Entry → ℕ → World
 world_at m first w entries n = world_after m w (take (n - first) entries)
-
--- each task is fit, and its reply is the answer in the world just before it
-abbrev pub AreAnswers : Meaning → World → List Entry → Type 0
-AreAnswers m w [] = ⊤
-AreAnswers m w (e ∷ entries) = m.fit e.task × (e.reply ≡ m.answer w e.task) × AreAnswers m (m.effect w e.task) entries
-
--- a history that begins in a valid world
-pub record IsLegal (m : Meaning) (w : World) (entries : List Entry) : Type 0 where
-  pub valid : m.valid w
-  pub answers : AreAnswers m w entries
 
 -- ---- what entries write
 

@@ -10,7 +10,7 @@ use Rattle.world_cells.specs.Reads.{Cells, covers}
 use Rattle.world_cells.specs.Lists.{IsIn}
 use Rattle.task_forms.specs.Meaning.{Meaning}
 use Rattle.task_forms.specs.Meaning.{world_after, IsLegal}
-use Rattle.history_model.specs.Histories.{Noted, Writings, IsAbove}
+use Rattle.history_model.specs.Histories.{Noted, Writings, IsAbove, IsConflict, IsAged}
 
 -- ---- a log
 
@@ -62,6 +62,12 @@ abbrev pub Judges : Log → ReadSet → ℕ → Check → Type 0
 Judges log reads since check.Clear = ¬ IsAbove since log.dropped × NoneMeets reads since log.kept
 Judges log reads since (check.Conflict n) = ¬ IsAbove since log.dropped × IsFirstMeeting reads since log.kept n
 Judges log reads since (check.Aged n) = (log.dropped ≡ Some n) × (since < n)
+
+-- what an answer of the log means of the history: the first entry that wrote what was read, unless the snapshot is too old
+abbrev pub IsSaid : Meaning → ℕ → World → List Entry → ℕ → ReadSet → ℕ → Check → Type 0
+IsSaid m first w entries window reads since check.Clear = IsConflict m first w entries reads since None × IsAged m first w entries since window None
+IsSaid m first w entries window reads since (check.Conflict n) = IsConflict m first w entries reads since (Some n) × IsAged m first w entries since window None
+IsSaid m first w entries window reads since (check.Aged n) = IsAged m first w entries since window (Some n)
 
 -- ---- a core
 

@@ -14,7 +14,7 @@ use Rattle.history_model.specs.declared.checks.Check.{Check}
 use Rattle.history_model.specs.declared.checks.Check.TheVariants as check
 use Rattle.task_forms.specs.Meaning.{world_after}
 use Rattle.history_model.specs.Histories.{IsAged, Noted, Writings, Writes, IsNumber, MeetsReads, IsConflict, IsAbove, last_dropped, world_at}
-use Rattle.history_model.specs.Standing.{Judges, Log, Keeps, IsLastOf, Meets, NoneMeets, IsFirstMeeting}
+use Rattle.history_model.specs.Standing.{IsSaid, Judges, Log, Keeps, IsLastOf, Meets, NoneMeets, IsFirstMeeting}
 
 -- ---- the entry that was dropped last
 
@@ -222,12 +222,6 @@ none_of_all reads since (x ∷ old) kept up none = ((λ low. let h : x.number �
 first_of_all : (reads : ReadSet) (since n : ℕ) (old kept : List Noted) → AreUpTo since old → IsFirstMeeting reads since kept n → IsFirstMeeting reads since (old ++ kept) n
 first_of_all reads since n [] kept up h = h
 first_of_all reads since n (x ∷ old) kept up h = inr ((λ low. let h : x.number ≤ since = up.0 in let no : ⊥ = omega arith in absurd no), first_of_all reads since n old kept up.1 h)
-
--- what an answer of the log means of the history: the first entry that wrote what was read, unless the snapshot is too old
-abbrev pub IsSaid : Meaning → ℕ → World → List Entry → ℕ → ReadSet → ℕ → Check → Type 0
-IsSaid m first w entries window reads since check.Clear = IsConflict m first w entries reads since None × IsAged m first w entries since window None
-IsSaid m first w entries window reads since (check.Conflict n) = IsConflict m first w entries reads since (Some n) × IsAged m first w entries since window None
-IsSaid m first w entries window reads since (check.Aged n) = IsAged m first w entries since window (Some n)
 
 pub judges : (m : Meaning) (first : ℕ) (w : World) (entries : List Entry) (noted : List Noted) → Writings m first w entries noted → (log : Log) → Keeps log noted → (reads : ReadSet) (since : ℕ) (check : Check)
     → Judges log reads since check → IsSaid m first w entries log.window reads since check

@@ -17,7 +17,7 @@ use Rattle.history_model.specs.Trials.{IsTried}
 use Rattle.task_forms.specs.Meaning.{world_after, AreAnswers, IsLegal}
 use Rattle.history_model.specs.Histories.{world_at, Exactly, Noted, Writings, IsAbove}
 use Rattle.history_model.specs.Standing.{IsLastOf, Log, Keeps, Stands, NoneMeets, Pushes}
-use Rattle.history_model.proofs.Standings.{RisesAbove}
+use Rattle.history_model.specs.LogLaws.{RisesAbove}
 
 not_less : (a b : ℕ) → (a < b → ⊥) → b ≤ a
 not_less a b h = grind (arith)
