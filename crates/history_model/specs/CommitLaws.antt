@@ -18,6 +18,7 @@ use Rattle.task_forms.specs.Meaning.{world_after, AreAnswers, IsLegal}
 use Rattle.history_model.specs.Histories.{world_at, Exactly, Noted, Writings, IsAbove}
 use Rattle.history_model.specs.Standing.{IsLastOf, Log, Keeps, Stands, NoneMeets, Pushes}
 use Rattle.history_model.specs.LogLaws.{RisesAbove}
+use Rattle.history_model.specs.Laws.{TakesEntry}
 
 not_less : (a b : ℕ) → (a < b → ⊥) → b ≤ a
 not_less a b h = grind (arith)
@@ -202,3 +203,16 @@ module _ (m : Meaning) (lawful : IsLawful m) (f : Cells) (count : ℕ) (log : Lo
           counted = is ∙ counted_now;
           noted = (st.noted.0 ++ x ∷ [], writings_more m first w es st.noted.0 e keys num st.noted.1 some_changed changed (omega arith), keeps_push log st.noted.0 x log' st.noted.2 push);
         }
+
+-- a store that takes an entry that is right in the last world stands for the history with it
+pub takes_entry : (m : Meaning) → IsLawful m → (f f' : Cells) (count : ℕ) (log log' : Log) (first : ℕ) (w : World) (es : List Entry) → Stands m f count log first w es → (e : Entry) (writes : List Written) → m.fit e.task
+    → (e.reply ≡ m.answer (world_after m w es) e.task) × Leads (m.cells (world_after m w es)) writes (m.cells (m.effect (world_after m w es) e.task))
+    → TakesEntry f f' count log log' writes → Stands m f' (count + 1) log' first w (es ++ e ∷ [])
+takes_entry m lawful f f' count log log' first w es st e writes fit right takes = by takes.logged
+  where
+    same : Stands m f' (count + 1) log first w (es ++ e ∷ []) → log' ≡ log → Stands m f' (count + 1) log' first w (es ++ e ∷ [])
+    same stands is = subst (λ l. Stands m f' (count + 1) l first w (es ++ e ∷ [])) (sym is) stands
+
+    by : ((takes.keys ≡ []) × (log' ≡ log)) ⊎ ((takes.keys ≢ []) × Pushes log (record { number = count + 1; keys = takes.keys }) log') → Stands m f' (count + 1) log' first w (es ++ e ∷ [])
+    by (inl quiet) = same (commit_same m lawful f count log first w es st e writes fit right.0 right.1 f' f' takes.keys (λ k. refl) takes.written takes.changed quiet.0) quiet.1
+    by (inr loud) = commit_more m lawful f count log first w es st e writes fit right.0 right.1 f' f' takes.keys (λ k. refl) takes.written takes.changed loud.0 (count + 1) refl log' loud.1

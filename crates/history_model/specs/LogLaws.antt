@@ -13,7 +13,7 @@ use Rattle.std.specs.List.{AllByRecursion}
 use Rattle.history_model.specs.declared.checks.Check.{Check}
 use Rattle.history_model.specs.declared.checks.Check.TheVariants as check
 use Rattle.task_forms.specs.Meaning.{world_after}
-use Rattle.history_model.specs.Histories.{IsAged, Noted, Writings, Writes, IsNumber, MeetsReads, IsConflict, IsAbove, last_dropped, world_at}
+use Rattle.history_model.specs.Histories.{IsLeastAbove, IsAged, Noted, Writings, Writes, IsNumber, MeetsReads, IsConflict, IsAbove, last_dropped, world_at}
 use Rattle.history_model.specs.Standing.{IsSaid, Judges, Log, Keeps, IsLastOf, Meets, NoneMeets, IsFirstMeeting}
 
 -- ---- the entry that was dropped last
@@ -234,3 +234,16 @@ judges m first w entries noted writings log keeps reads since (check.Conflict n)
   (noted, writings, subst (λ o. ¬ IsAbove since o) (sym (log_dropped log noted keeps)) said.0),
 )
 judges m first w entries noted writings log keeps reads since (check.Aged n) said = (noted, writings, (log_dropped log noted keeps ∙ said.0, said.1))
+
+-- the least number above another at which something holds is one
+pub least_is_one : (P : ℕ → Type 0) (at : ℕ) (one other : Option ℕ) → IsLeastAbove P at one → IsLeastAbove P at other → one ≡ other
+least_is_one P at None None p q = refl
+least_is_one P at None (Some n) p q = absurd (p n q.0 q.1)
+least_is_one P at (Some n) None p q = absurd (q n p.0 p.1)
+least_is_one P at (Some n) (Some i) p q =
+    let low : ¬ (n < i) = λ less. q.2 n p.0 less p.1 in
+    let high : ¬ (i < n) = λ less. p.2 i q.0 less q.1 in
+    ap Some (neither n i low high)
+  where
+    neither : (a b : ℕ) → ¬ (a < b) → ¬ (b < a) → a ≡ b
+    neither a b low high = grind (arith)
