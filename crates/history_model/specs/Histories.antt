@@ -1,5 +1,5 @@
 -- Histories: the worlds in them, what their entries write, conflicts and passes (all of this project).
-use Rattle.std.specs.Prelude.{◌≡◌, ◌≢◌, ℕ, ◌+◌, ◌-◌, ◌<◌, ◌≤◌, ◌==◌, ◌||◌, ◌⊎◌, Bool, false, if◌then◌else◌, IsTrue, List, [], ◌∷◌, take, length, Some, None, Option, MatchOption, ⊤}
+use Rattle.std.specs.Prelude.{◌≡◌, ◌≢◌, ℕ, ◌+◌, ◌-◌, ◌<◌, ◌≤◌, ◌==◌, ◌||◌, ◌⊎◌, Bool, false, if◌then◌else◌, IsTrue, List, [], ◌∷◌, take, length, Some, None, Option, MatchOption}
 use Rattle.world_cells.specs.declared.keys.CellKey.{CellKey}
 use Rattle.world_cells.specs.declared.sets.ReadSet.{ReadSet}
 use Rattle.task_forms.specs.declared.tasks.Entry.{Entry}

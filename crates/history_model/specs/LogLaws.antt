@@ -13,7 +13,7 @@ use Rattle.std.specs.List.{AllByRecursion}
 use Rattle.history_model.specs.declared.checks.Check.{Check}
 use Rattle.history_model.specs.declared.checks.Check.TheVariants as check
 use Rattle.task_forms.specs.Meaning.{world_after}
-use Rattle.history_model.specs.Histories.{IsLeastAbove, IsAged, Noted, Writings, Writes, IsNumber, MeetsReads, IsConflict, IsAbove, last_dropped, world_at}
+use Rattle.history_model.specs.Histories.{IsLeastAbove, Noted, Writings, Writes, IsNumber, MeetsReads, IsConflict, IsAbove, last_dropped, world_at}
 use Rattle.history_model.specs.Standing.{IsSaid, Judges, Log, Keeps, IsLastOf, Meets, NoneMeets, IsFirstMeeting}
 
 -- ---- the entry that was dropped last
