@@ -1,16 +1,15 @@
 -- A chunked body is whole, refused at one place, too large or cut, and never two of these.
-use Rattle.std.proofs.Common.{◌≡◌, ◌≢◌, ℕ, ◌+◌, ◌-◌, ◌<◌, ◌≤◌, List, [], ◌∷◌, ◌++◌, length, take, drop, refl, sym, ap, subst, ◌∙◌, arith, append_assoc, append-nil, ◌⊎◌, inl, inr, All, take-append-drop, length-append}
-use Rattle.std.specs.List.{flat_map}
+use Rattle.std.proofs.Common.{◌≡◌, ◌≢◌, ℕ, ◌+◌, ◌-◌, ◌<◌, ◌≤◌, List, [], ◌∷◌, ◌++◌, length, take, drop, refl, sym, ap, subst, ◌∙◌, arith, append_assoc, ◌⊎◌, inl, inr, All, take-append-drop, length-append}
 use Rattle.std.proofs.Math.Seq.{take-append-add}
 use Rattle.std.proofs.lemmas.List.Elements.{All-head, All-tail}
-use Rattle.httparse.specs.Grammar.{ChunkLine, IsChunkLine, print_chunk_line, chunk_size, ReadsChunkLine, HasNoChunkLine, NeverHasChunkLine, MayBecomeChunkLine, Field, LineEnd, print_section, ReadsSection, HasNoSection, NeverHasSection, MayBecomeSection}
+use Rattle.httparse.specs.Grammar.{ChunkLine, print_chunk_line, chunk_size, HasNoChunkLine, NeverHasChunkLine, MayBecomeChunkLine, print_section, HasNoSection, NeverHasSection, MayBecomeSection}
 use Rattle.httparse.specs.Ascii.{crlf_bytes}
 use Rattle.httparse.proofs.GrammarLemmas.{section_unique}
 use Rattle.httparse.proofs.ChunkLemmas.{chunk_line_unique}
 use Rattle.http_messages.specs.declared.framings.Framing.{Framing}
 use Rattle.http_messages.specs.declared.framings.Framing.TheVariants.{Empty, Length, Chunked}
 use Rattle.http_model.specs.Framings.{body_limit}
-use Rattle.http_model.specs.Bodies.{chunk_line_limit, trailer_limit, TakesChunkLine, TakesTrailers, Chunk, IsChunk, print_chunk, print_chunks, content_of, ChunksSoFar, ReadsChunked, IsBadLine, IsBadTrailers, IsBadEnd, IsBadPiece, bad_line, bad_end, bad_trailers, IsBadChunked, IsLargeChunked, IsCutPiece, cut_line, cut_content, cut_end, cut_trailers, IsCutChunked, ReadsBody, IsCutBody, BodyKind, body_good, body_bad, body_large, body_cut, IsBodyKind}
+use Rattle.http_model.specs.Bodies.{chunk_line_limit, trailer_limit, TakesChunkLine, TakesTrailers, Chunk, IsChunk, print_chunks, content_of, ChunksSoFar, IsBadLine, IsBadTrailers, IsBadEnd, IsBadPiece, bad_line, bad_end, bad_trailers, IsCutPiece, cut_line, cut_content, cut_end, cut_trailers, BodyKind, body_good, body_bad, body_large, body_cut, IsBodyKind}
 use Rattle.http_model.proofs.Requests.{append_same, behind_line, chunk_line_at, body_unique}
 
 -- ---- a limit

@@ -1,7 +1,7 @@
 -- The exchanges of a connection are the messages of its bytes, and one list where the entries are known.
-use Rattle.std.proofs.Common.{◌≡◌, ℕ, ◌+◌, Bool, true, false, List, [], ◌∷◌, ◌++◌, length, map, refl, sym, ap, subst, ◌∙◌, append_assoc, ◌⊎◌, inl, inr, arith, length-append}
+use Rattle.std.proofs.Common.{◌≡◌, ℕ, ◌+◌, List, [], ◌∷◌, ◌++◌, length, map, refl, sym, ap, subst, ◌∙◌, append_assoc, ◌⊎◌, inl, inr, arith, length-append}
 use Rattle.std.specs.Prelude.{IsTrue, IsFalse}
-use Rattle.std.proofs.lemmas.List.Elements.{All-head, All-tail, All-nil}
+use Rattle.std.proofs.lemmas.List.Elements.{All-head, All-tail}
 use Rattle.http_messages.specs.declared.messages.Message.{Message}
 use Rattle.http_messages.specs.declared.messages.Reply.{Reply}
 use Rattle.http_model.specs.Framings.{closes}
@@ -143,14 +143,17 @@ runs_unique {T} {E} plans i bytes (a ∷ xs) (b ∷ ys) j k r q more others x y 
     joined p = λ z. same z ∷ p z
 
     at : (Runs plans b.number y.0 xs j r → Runs plans b.number y.0 ys k q → IsWhole xs r → IsWhole ys q → entries_of xs ++ more ≡ entries_of ys ++ others
-          → (xs ≡ ys) × (j ≡ k) × (r ≡ q) × (more ≡ others))
+        → (xs ≡ ys) × (j ≡ k) × (r ≡ q) × (more ≡ others))
         → ((xs ≡ []) × IsTrue (closes_by a)) ⊎ (IsFalse (closes_by a) × IsWhole xs r) → ((ys ≡ []) × IsTrue (closes_by b)) ⊎ (IsFalse (closes_by b) × IsWhole ys q)
         → (a ∷ xs ≡ b ∷ ys) × (j ≡ k) × (r ≡ q) × (more ≡ others)
     at next (inl (p, closing)) (inl (s, other)) =
         let left = runs_nothing plans b.number y.0 xs j r p behind in
-        let right = runs_nothing plans b.number y.0 ys k q s y.4 in
-        (joined (p ∙ sym s), left.0 ∙ sym right.0, sym left.1 ∙ right.1,
-          ap (λ (l : List (Exchange E)). entries_of l ++ more) (sym p) ∙ answers.2 ∙ ap (λ (l : List (Exchange E)). entries_of l ++ others) s)
+        let right = runs_nothing plans b.number y.0 ys k q s y.4 in (
+          joined (p ∙ sym s),
+          left.0 ∙ sym right.0,
+          sym left.1 ∙ right.1,
+          ap (λ (l : List (Exchange E)). entries_of l ++ more) (sym p) ∙ answers.2 ∙ ap (λ (l : List (Exchange E)). entries_of l ++ others) s,
+        )
     at next (inl (p, closing)) (inr (stays, h)) = absurd (not_both (closes_by b) stays (subst (λ (c : Exchange E). IsTrue (closes_by c)) same closing))
     at next (inr (stays, h)) (inl (s, closing)) = absurd (not_both (closes_by a) stays (subst (λ (c : Exchange E). IsTrue (closes_by c)) (sym same) closing))
     at next (inr (stays, h)) (inr (others_stay, k)) =

@@ -1,7 +1,7 @@
 -- What was said of a rest stays so when more bytes are there, but that it is open or cut.
-use Rattle.std.proofs.Common.{◌≡◌, ◌≢◌, ℕ, zero, suc, ◌+◌, ◌-◌, ◌<◌, ◌≤◌, Bool, List, [], ◌∷◌, ◌++◌, length, take, refl, sym, ap, subst, ◌∙◌, arith, append_assoc, ◌⊎◌, inl, inr, length-append}
+use Rattle.std.proofs.Common.{◌≡◌, ℕ, zero, suc, ◌≤◌, Bool, List, [], ◌∷◌, ◌++◌, length, take, refl, sym, ap, subst, ◌∙◌, arith, append_assoc, ◌⊎◌, inl, inr, length-append}
 use Rattle.std.proofs.lemmas.List.{take-append-le}
-use Rattle.httparse.specs.Grammar.{ChunkLine, print_chunk_line, chunk_size, ReadsChunkLine, HasNoChunkLine, NeverHasChunkLine, RequestHead, Field, LineEnd, ReadsSection, HasNoSection, NeverHasSection}
+use Rattle.httparse.specs.Grammar.{ChunkLine, print_chunk_line, ReadsChunkLine, NeverHasChunkLine, RequestHead, ReadsSection, NeverHasSection}
 use Rattle.httparse.proofs.GrammarLemmas.{ReadsRequest-append}
 use Rattle.http_messages.specs.declared.messages.Message.{Message}
 use Rattle.http_messages.specs.declared.framings.RefusedRest.{RefusedRest}
@@ -13,7 +13,7 @@ use Rattle.http_model.specs.Exchanges.{Plans, Exchange, Runs}
 use Rattle.http_model.proofs.Heads.{never_more}
 use Rattle.http_messages.specs.declared.framings.Framing.{Framing}
 use Rattle.http_messages.specs.declared.framings.Framing.TheVariants.{Empty, Length, Chunked}
-use Rattle.http_model.specs.Bodies.{chunk_line_limit, trailer_limit, TakesChunkLine, TakesTrailers, print_chunks, content_of, ChunksSoFar, ReadsChunked, IsBadLine, IsBadTrailers, IsBadEnd, IsBadPiece, bad_line, bad_end, bad_trailers, IsBadChunked, IsLargeChunked, ReadsBody}
+use Rattle.http_model.specs.Bodies.{chunk_line_limit, trailer_limit, TakesChunkLine, TakesTrailers, print_chunks, content_of, IsBadLine, IsBadTrailers, IsBadEnd, IsBadPiece, bad_line, bad_end, bad_trailers, IsBadChunked, IsLargeChunked, ReadsBody}
 
 front_more : (a b c more : List ℕ) → a ≡ b ++ c → a ++ more ≡ b ++ (c ++ more)
 front_more a b c more e = ap (λ (l : List ℕ). l ++ more) e ∙ append_assoc b c more

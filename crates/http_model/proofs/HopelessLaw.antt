@@ -1,6 +1,5 @@
 -- Both rules of hopeless bytes agree: that of httparse's heads and a target so far, and that no bytes make them a head.
-use Rattle.std.proofs.Common.{◌≡◌, ◌≢◌, ℕ, ◌+◌, ◌<◌, ◌≤◌, Bool, true, false, not, ◌&&◌, ◌||◌, cond, List, [], ◌∷◌, ◌++◌, length, drop, refl, sym, ap, subst, ◌∙◌, arith, append_assoc, append-nil, eqb, ◌⊎◌, inl, inr}
-use Rattle.std.specs.Prelude.{IsFalse}
+use Rattle.std.proofs.Common.{◌≡◌, ℕ, ◌<◌, Bool, true, false, not, ◌&&◌, ◌||◌, cond, List, [], ◌∷◌, ◌++◌, length, drop, refl, sym, ap, subst, ◌∙◌, arith, append_assoc, append-nil, eqb, ◌⊎◌, inl, inr}
 use Rattle.std.specs.List.{list_all}
 use Rattle.std.proofs.lemmas.Bool.{and_parts, and_from, false≢true, eqb-true}
 use Rattle.std.proofs.lemmas.Bool.Decides.{nat_tests}
@@ -10,7 +9,7 @@ use Rattle.httparse.specs.Grammar.{AllPass, is_token_byte, is_uri_byte, IsToken,
 use Rattle.httparse.specs.Pieces.{is_newline, Stops}
 use Rattle.httparse.proofs.PieceLemmas.{token_is_no_newline, space_ends_token, Blank_deterministic}
 use Rattle.httparse.proofs.GrammarLemmas.{print_request-append}
-use Rattle.http_model.specs.Heads.{is_visible, ReadsHead, HasNoHead, NeverHasHead, MayBecomeHead}
+use Rattle.http_model.specs.Heads.{is_visible, HasNoHead, NeverHasHead, MayBecomeHead}
 use Rattle.http_model.specs.Targets.{visible_to_space, has_visible_target}
 use Rattle.http_model.specs.Hopeless.{is_plain, after_lines, plain_front, behind_plain, before_space, target_at, target_so_far, is_empty, ends_at, ends_in_target, start_of, BeginsNoRequest, IsHopeless, RuleAgrees}
 use Rattle.http_model.proofs.Targets.{target_front, target_behind, visible_passes, visible_front}

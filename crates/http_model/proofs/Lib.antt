@@ -8,3 +8,5 @@ pub mod Growth
 pub mod RestsLaw
 pub mod ExchangesLaw
 pub mod ServedLaw
+mod Examples
+mod SessionExamples

@@ -1,12 +1,10 @@
 -- One stream has one list of messages.
-use Rattle.std.proofs.Common.{◌≡◌, ◌≢◌, ℕ, ◌+◌, ◌<◌, ◌≤◌, Bool, true, false, List, [], ◌∷◌, ◌++◌, length, map, drop, refl, sym, ap, subst, ◌∙◌, arith, append_assoc, append-nil, ◌⊎◌, inl, inr, All, Ok, Err, Result, length-append}
+use Rattle.std.proofs.Common.{◌≡◌, ℕ, ◌+◌, Bool, true, false, List, [], ◌∷◌, ◌++◌, length, map, drop, refl, sym, ap, subst, ◌∙◌, arith, append_assoc, ◌⊎◌, inl, inr, All, Ok, Err, Result}
 use Rattle.std.specs.Prelude.{IsTrue, IsFalse}
-use Rattle.std.specs.List.{flat_map}
 use Rattle.std.proofs.lemmas.Bool.{false≢true}
 use Rattle.std.proofs.lemmas.List.Elements.{All-head, All-tail}
-use Rattle.httparse.specs.Grammar.{RequestHead, ChunkLine, IsChunkLine, print_chunk_line, chunk_size, ReadsChunkLine, ReadsSection}
+use Rattle.httparse.specs.Grammar.{RequestHead, ChunkLine, print_chunk_line, chunk_size, ReadsChunkLine, ReadsSection}
 use Rattle.httparse.specs.Ascii.{crlf_bytes}
-use Rattle.httparse.specs.Spans.{name_and_value}
 use Rattle.httparse.proofs.GrammarLemmas.{request_unique, section_unique}
 use Rattle.httparse.proofs.ChunkLemmas.{chunk_line_unique}
 use Rattle.http_messages.specs.declared.messages.Message.{Message}
@@ -17,7 +15,7 @@ use Rattle.http_messages.specs.declared.framings.Framing.{Framing}
 use Rattle.http_messages.specs.declared.framings.Framing.TheVariants.{Empty, Length, Chunked}
 use Rattle.http_messages.specs.declared.framings.HeadFault.{HeadFault}
 use Rattle.http_model.specs.Framings.{framing_of, closes}
-use Rattle.http_model.specs.Bodies.{ReadsBody, Chunk, IsChunk, print_chunk, print_chunks, content_of, ReadsChunked, TakesChunkLine}
+use Rattle.http_model.specs.Bodies.{ReadsBody, Chunk, IsChunk, print_chunks, content_of, ReadsChunked}
 use Rattle.http_model.specs.Requests.{ReadsWholeHead, ReadsMessage, ReadsMessages, LastCloses, HasNoMessage, AreRequests}
 
 -- ---- heads

@@ -1,22 +1,22 @@
 -- A rest is refused for one reason, or cut, or between messages, and in none of these cases does a message begin it.
-use Rattle.std.proofs.Common.{◌≡◌, ◌≢◌, ℕ, ◌+◌, ◌-◌, ◌<◌, ◌≤◌, Bool, true, false, List, [], ◌∷◌, ◌++◌, length, take, drop, refl, sym, ap, subst, ◌∙◌, arith, append_assoc, append-nil, ◌⊎◌, inl, inr, Ok, Err, Result, Option, Some, None, take-append-drop, length-append}
+use Rattle.std.proofs.Common.{◌≡◌, ℕ, ◌+◌, ◌-◌, Bool, true, false, List, [], ◌∷◌, ◌++◌, length, take, drop, refl, sym, ap, subst, ◌∙◌, arith, append_assoc, append-nil, ◌⊎◌, inl, inr, Ok, Err, Result, take-append-drop}
 use Rattle.std.proofs.Math.Seq.{take-append-add}
 use Rattle.std.specs.List.{list_all}
 use Rattle.std.proofs.lemmas.Bool.{and_parts, false≢true}
 use Rattle.std.proofs.lemmas.List.Elements.{All-nil}
 use Rattle.std.proofs.lemmas.List.Sums.{AllPass-from_list_all, list_all-from_AllPass}
-use Rattle.httparse.specs.Grammar.{RequestHead, print_request, IsToken, is_token_byte, LineEnd, crlf, lf, print_blank, print_end, print_version, print_section}
+use Rattle.httparse.specs.Grammar.{RequestHead, print_request, IsToken, is_token_byte, LineEnd, crlf, lf, print_blank}
 use Rattle.httparse.specs.Pieces.{is_newline}
 use Rattle.httparse.proofs.PieceLemmas.{token_is_no_newline}
 use Rattle.httparse.proofs.GrammarLemmas.{print_request-append}
 use Rattle.http_messages.specs.declared.messages.Message.{Message}
-use Rattle.http_model.specs.Heads.{is_visible, ReadsHead, HasNoHead, NeverHasHead, IsOpen, front, head_limit, field_limit, IsEmptyLines}
+use Rattle.http_model.specs.Heads.{is_visible, ReadsHead, NeverHasHead, IsOpen, front, head_limit, IsEmptyLines}
 use Rattle.http_model.specs.Messages.{FitsLimit}
 use Rattle.http_messages.specs.declared.framings.Framing.{Framing}
-use Rattle.http_messages.specs.declared.framings.Framing.TheVariants.{Empty, Length, Chunked}
+use Rattle.http_messages.specs.declared.framings.Framing.TheVariants.{Chunked}
 use Rattle.http_messages.specs.declared.framings.HeadFault.{HeadFault}
 use Rattle.http_model.specs.Framings.{framing_of, interim_of, is_head}
-use Rattle.http_model.specs.Requests.{ReadsWholeHead, ReadsMessage, HasNoMessage}
+use Rattle.http_model.specs.Requests.{ReadsWholeHead, HasNoMessage}
 use Rattle.http_messages.specs.declared.framings.RefusedRest.{RefusedRest}
 use Rattle.http_messages.specs.declared.framings.RefusedRest.TheVariants.{Hopeless, TooLarge, TooMany, Head, BadChunk, LargeBody}
 use Rattle.http_model.specs.Rests.{IsBetween, IsRefused, IsCut, RestKind, rest_between, rest_cut, rest_refused, rest_message, IsRest, HeadKind, head_never, head_large, head_many, head_open, head_whole, IsHeadKind}

@@ -1,13 +1,12 @@
 -- Where the input decides the end, it and the entries decide what is sent.
-use Rattle.std.proofs.Common.{◌≡◌, ℕ, Bool, true, false, List, [], ◌∷◌, ◌++◌, map, refl, sym, ap, subst, ◌∙◌, ◌⊎◌, inl, inr}
-use Rattle.http_messages.specs.declared.messages.Message.{Message}
+use Rattle.std.proofs.Common.{◌≡◌, ℕ, Bool, true, false, List, [], ◌++◌, map, refl, sym, ap, subst, ◌∙◌, ◌⊎◌, inl, inr}
 use Rattle.http_messages.specs.declared.framings.RefusedRest.{RefusedRest}
 use Rattle.http_messages.specs.ReplyText.{reply_text}
-use Rattle.http_model.specs.Rests.{IsBetween, IsRefused, IsCut, RestKind, rest_between, rest_cut, rest_refused, rest_message, IsRest}
+use Rattle.http_model.specs.Rests.{IsBetween, IsCut, RestKind, rest_between, rest_cut, rest_refused, rest_message}
 use Rattle.http_model.specs.Refusals.{refusal_of}
 use Rattle.http_model.specs.Requests.{AreRequests}
 use Rattle.http_messages.specs.declared.ends.SessionEnd.TheVariants.{ReadFault}
-use Rattle.http_model.specs.Exchanges.{Plans, Exchange, Runs, StaysOpen, LastCloses, IsWhole, text_of, entries_of}
+use Rattle.http_model.specs.Exchanges.{Plans, Exchange, Runs, StaysOpen, LastCloses, IsWhole, text_of}
 use Rattle.http_model.specs.Served.{RefusalText, EndIs, read_at, Served, InputEnd, by_closing, by_cut, by_refusal, end_of}
 use Rattle.http_model.proofs.RestsLaw.{rest_unique, between_none, cut_none, refused_none}
 use Rattle.http_model.proofs.ExchangesLaw.{open_apart, runs_unique, are_requests}

@@ -1,7 +1,7 @@
 -- The head of a request as this server reads it: a head of httparse's grammar, empty lines before it
 -- included, whose target is visible ASCII (RFC 9112, sections 2, 3 and 5).
-use Rattle.std.specs.Prelude.{◌≡◌, ℕ, ◌<◌, ◌≤◌, Bool, ◌&&◌, nat_le, List, [], ◌∷◌, ◌++◌, length, take}
-use Rattle.httparse.specs.Grammar.{AllPass, LineEnd, print_blank, RequestHead, print_request, ReadsRequest}
+use Rattle.std.specs.Prelude.{◌≡◌, ℕ, Bool, ◌&&◌, nat_le, List, [], ◌++◌, take}
+use Rattle.httparse.specs.Grammar.{AllPass, LineEnd, print_blank, RequestHead, ReadsRequest}
 
 -- the greatest head, empty lines before it included (of this project)
 abbrev pub head_limit : ℕ

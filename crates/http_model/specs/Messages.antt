@@ -4,7 +4,7 @@ use Rattle.httparse.specs.Grammar.{RequestHead, print_request}
 use Rattle.httparse.specs.Spans.{name_and_value}
 use Rattle.http_messages.specs.declared.messages.Message.{Message}
 use Rattle.http_messages.specs.declared.messages.Field.{Field}
-use Rattle.http_model.specs.Heads.{head_limit, field_limit}
+use Rattle.http_model.specs.Heads.{head_limit}
 
 -- a field's name and value
 abbrev pub field_parts : Field → List ℕ × List ℕ

@@ -3,7 +3,6 @@ use Rattle.std.specs.Prelude.{ℕ, List, ◌++◌, codes, decimal, None}
 use Rattle.http_messages.specs.declared.messages.Reply.{Reply}
 use Rattle.http_messages.specs.declared.messages.Content.TheVariants as content
 use Rattle.http_messages.specs.declared.messages.Allow.TheVariants as allow
-use Rattle.http_messages.specs.declared.framings.HeadFault.{HeadFault}
 use Rattle.http_messages.specs.declared.framings.HeadFault.TheVariants.{Host, TwoFramings, BadCoding, UnknownCoding, BadLength, LongBody, Expectation}
 use Rattle.http_messages.specs.declared.framings.RefusedRest.{RefusedRest}
 use Rattle.http_messages.specs.declared.framings.RefusedRest.TheVariants.{Hopeless, TooLarge, TooMany, Head, BadChunk, LargeBody}

@@ -1,5 +1,5 @@
 -- The messages of a stream of bytes (RFC 9112, sections 2, 6 and 9.3).
-use Rattle.std.specs.Prelude.{◌≡◌, ◌⊎◌, ℕ, ◌+◌, ◌≤◌, Bool, true, false, List, [], ◌∷◌, length, Ok, IsTrue, IsFalse}
+use Rattle.std.specs.Prelude.{◌≡◌, ◌⊎◌, ℕ, ◌+◌, ◌≤◌, List, [], ◌∷◌, length, Ok, IsTrue, IsFalse}
 use Rattle.httparse.specs.Grammar.{RequestHead}
 use Rattle.http_messages.specs.declared.messages.Message.{Message}
 use Rattle.http_model.specs.Heads.{ReadsHead, field_limit}
