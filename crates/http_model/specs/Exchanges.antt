@@ -37,6 +37,7 @@ Runs plans i bytes (x ∷ xs) j rest =
     (middle : List ℕ) × ReadsMessage bytes x.message middle × (x.number ≡ i + 1) × IsAnswer plans (plans.plan x.message) x.reply x.entries
     × Runs plans x.number middle xs j rest
 
+-- its reply closes the connection
 abbrev pub closes_by : {E : Type 0} → Exchange E → Bool
 closes_by x = closes x.message x.number
 
@@ -60,6 +61,7 @@ IsWhole xs rest = (StaysOpen xs × HasNoMessage rest) ⊎ LastCloses xs
 abbrev pub sent_for : Message → ℕ → Reply → List ℕ
 sent_for m number reply = interim_of m ++ reply_text reply (is_head m) (closes m number)
 
+-- what is sent for it
 abbrev pub sent_by : {E : Type 0} → Exchange E → List ℕ
 sent_by x = sent_for x.message x.number x.reply
 

@@ -29,6 +29,7 @@ same_bytes [] (y ∷ ys) = false
 same_bytes (x ∷ xs) [] = false
 same_bytes (x ∷ xs) (y ∷ ys) = (x == y) && same_bytes xs ys
 
+-- ASCII letters in lower case
 abbrev pub lower : List ℕ → List ℕ
 lower bytes = map to_ascii_lowercase bytes
 
@@ -63,30 +64,38 @@ abbrev pub last_part : List (List ℕ) → List ℕ
 last_part [] = []
 last_part (p ∷ parts) = or_text (last_part parts) (trim_ows p)
 
+-- there is no such field
 abbrev pub is_none : List (List ℕ) → Bool
 is_none values = length values == 0
 
+-- there is one such field
 abbrev pub is_one : List (List ℕ) → Bool
 is_one values = length values == 1
 
+-- the value of the first, or nothing
 abbrev pub first_value : List (List ℕ) → List ℕ
 first_value [] = []
 first_value (v ∷ values) = v
 
 -- ---- the fields that frame a body
 
+-- the values of Host (RFC 9110, section 7.2)
 abbrev pub hosts_of : Message → List (List ℕ)
 hosts_of m = values_of (codes "host") m.fields
 
+-- the values of Content-Length (RFC 9110, section 8.6)
 abbrev pub lengths_of : Message → List (List ℕ)
 lengths_of m = values_of (codes "content-length") m.fields
 
+-- the values of Transfer-Encoding (RFC 9112, section 6.1)
 abbrev pub codings_of : Message → List (List ℕ)
 codings_of m = values_of (codes "transfer-encoding") m.fields
 
+-- the values of Expect (RFC 9110, section 10.1.1)
 abbrev pub expects_of : Message → List (List ℕ)
 expects_of m = values_of (codes "expect") m.fields
 
+-- the coding chunked, in any case (RFC 9112, section 7)
 abbrev pub is_chunked : List ℕ → Bool
 is_chunked coding = same_in_any_case coding (codes "chunked")
 
@@ -94,6 +103,7 @@ is_chunked coding = same_in_any_case coding (codes "chunked")
 abbrev pub is_number : List ℕ → Bool
 is_number text = nat_lt 0 (length text) && list_all is_ascii_digit text
 
+-- the number that the first value is (RFC 9110, section 8.6)
 abbrev pub size_of : List (List ℕ) → ℕ
 size_of lengths = digits_value 10 (first_value lengths)
 

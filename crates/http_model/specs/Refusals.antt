@@ -11,6 +11,7 @@ use Rattle.http_messages.specs.declared.framings.RefusedRest.TheVariants.{Hopele
 pub data Fault : Type 0 where
   bad_message head_too_large body_too_large coding_unknown expectation_unknown : Fault
 
+-- what is told for a reason
 abbrev pub fault_of : RefusedRest → Fault
 fault_of Hopeless = bad_message
 fault_of TooLarge = head_too_large
@@ -25,7 +26,7 @@ fault_of (Head Expectation) = expectation_unknown
 fault_of BadChunk = bad_message
 fault_of LargeBody = body_too_large
 
--- (RFC 9110, section 15)
+-- the status of the reply (RFC 9110, section 15)
 abbrev pub status_of : Fault → ℕ
 status_of bad_message = 400
 status_of head_too_large = 431
@@ -33,6 +34,7 @@ status_of body_too_large = 413
 status_of coding_unknown = 501
 status_of expectation_unknown = 417
 
+-- the code of the error
 abbrev pub code_of : Fault → List ℕ
 code_of bad_message = codes "bad-message"
 code_of head_too_large = codes "head-too-large"
@@ -40,6 +42,7 @@ code_of body_too_large = codes "body-too-large"
 code_of coding_unknown = codes "unknown-coding"
 code_of expectation_unknown = codes "unknown-expectation"
 
+-- the title of the error
 abbrev pub title_of : Fault → List ℕ
 title_of bad_message = codes "Malformed message"
 title_of head_too_large = codes "Head too large"
@@ -54,6 +57,7 @@ error_body f =
     ++ codes "\",\"status\":\"" ++ decimal (status_of f)
     ++ codes "\",\"title\":\"" ++ title_of f ++ codes "\"}]}"
 
+-- the reply with that error
 abbrev pub error_reply : Fault → Reply
 error_reply f = record { status = status_of f; content = content.Plain; location = None; allow = allow.Nothing; body = error_body f }
 

@@ -53,6 +53,7 @@ pub data HeadKind : Type 0 where
   head_never head_large head_many head_open : HeadKind
   head_whole : Message → List ℕ → HeadKind
 
+-- the rest begins so
 abbrev pub IsHeadKind : List ℕ → HeadKind → Type 0
 IsHeadKind rest head_never = NeverHasHead (front rest)
 IsHeadKind rest head_large = (head_limit ≤ length rest) × IsOpen (front rest)
@@ -67,6 +68,7 @@ pub data RestKind : Type 0 where
   rest_refused : RefusedRest → List ℕ → Bool → RestKind
   rest_message : Message → List ℕ → RestKind
 
+-- the rest is of that kind
 abbrev pub IsRest : List ℕ → RestKind → Type 0
 IsRest rest rest_between = IsBetween rest
 IsRest rest (rest_cut early) = IsCut rest early

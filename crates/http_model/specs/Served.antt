@@ -97,6 +97,7 @@ pub data InputEnd : Type 0 where
   by_closing by_cut : InputEnd
   by_refusal : ℕ → InputEnd
 
+-- the same as an end
 abbrev pub end_of : InputEnd → SessionEnd
 end_of by_closing = Closed
 end_of by_cut = CutShort

@@ -2,6 +2,7 @@
 use Rattle.std.specs.Prelude.{ℕ, Bool, true, ◌&&◌, ◌||◌, ◌==◌, List, [], ◌∷◌, if◌then◌else◌}
 use Rattle.http_model.specs.Heads.{is_visible}
 
+-- CR or LF
 abbrev pub is_line_byte : ℕ → Bool
 is_line_byte b = (b == 13) || (b == 10)
 
