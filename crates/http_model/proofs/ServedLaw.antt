@@ -1,13 +1,13 @@
 -- Where the input decides the end, it and the entries decide what is sent.
-use Rattle.std.proofs.Common.{◌≡◌, ℕ, Bool, true, false, List, [], ◌++◌, map, refl, sym, ap, subst, ◌∙◌, ◌⊎◌, inl, inr}
+use Rattle.std.proofs.Common.{◌≡◌, ℕ, Bool, true, false, List, [], ◌++◌, map, refl, sym, ap, subst, ◌∙◌, ◌⊎◌, inl, inr, append_assoc, append-nil}
 use Rattle.http_messages.specs.declared.framings.RefusedRest.{RefusedRest}
-use Rattle.http_messages.specs.ReplyText.{reply_text}
+use Rattle.http_messages.specs.ReplyText.{reply_text, unavailable_text}
 use Rattle.http_model.specs.Rests.{IsBetween, IsCut, RestKind, rest_between, rest_cut, rest_refused, rest_message}
 use Rattle.http_model.specs.Refusals.{refusal_of}
 use Rattle.http_model.specs.Requests.{AreRequests}
-use Rattle.http_messages.specs.declared.ends.SessionEnd.TheVariants.{ReadFault}
-use Rattle.http_model.specs.Exchanges.{Plans, Exchange, Runs, StaysOpen, LastCloses, IsWhole, text_of}
-use Rattle.http_model.specs.Served.{RefusalText, EndIs, read_at, Served, InputEnd, by_closing, by_cut, by_refusal, end_of}
+use Rattle.http_messages.specs.declared.ends.SessionEnd.TheVariants.{ReadFault, NoMemory}
+use Rattle.http_model.specs.Exchanges.{Plans, Exchange, Runs, StaysOpen, LastCloses, IsWhole, text_of, entries_of}
+use Rattle.http_model.specs.Served.{RefusalText, EndIs, read_at, Served, InputEnd, by_closing, by_cut, by_refusal, end_of, RunsOut}
 use Rattle.http_model.proofs.RestsLaw.{rest_unique, between_none, cut_none, refused_none}
 use Rattle.http_model.proofs.ExchangesLaw.{open_apart, runs_unique, are_requests}
 
@@ -134,3 +134,18 @@ pub served_failed : {T E : Type 0} → (plans : Plans T E) (i : ℕ) (bytes take
     → (s : Served plans i bytes taken worn j entries out ReadFault) → AreRequests i taken (map (λ x. x.message) s.exchanges) s.rest
 served_failed plans i bytes taken worn j entries out s =
     are_requests plans i taken s.exchanges j s.rest s.runs (failed_whole s.exchanges s.rest s.tail s.ends.0 s.ends.1)
+
+pub served_out : {T E : Type 0} → (plans : Plans T E) (i : ℕ) (taken untaken : List ℕ) (worn : Bool) (j : ℕ) (entries : List E) (out : List ℕ)
+    → RunsOut plans i (taken ++ untaken) j entries out → Served plans i (taken ++ untaken) taken worn j entries (out ++ unavailable_text) NoMemory
+served_out plans i taken untaken worn j entries out r = record {
+  untaken = untaken;
+  front = refl;
+  exchanges = r.exchanges;
+  rest = r.rest;
+  more = [];
+  tail = r.early ++ unavailable_text;
+  runs = r.runs;
+  joined = r.joined ∙ sym (append-nil (entries_of r.exchanges));
+  sent = ap (λ (l : List ℕ). l ++ unavailable_text) r.sent ∙ append_assoc (text_of r.exchanges) r.early unavailable_text;
+  ends = (r.stays, record { early = r.early; is_early = r.is_early; whole = refl }, refl);
+}

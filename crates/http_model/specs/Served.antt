@@ -92,6 +92,18 @@ pub record Served {T E : Type 0} (plans : Plans T E) (i : ℕ) (bytes taken : Li
   pub sent : out ≡ text_of exchanges ++ tail
   pub ends : EndIs plans worn exchanges answered rest more tail end
 
+-- i messages having been answered before, memory ran out behind these exchanges of the bytes, and the text that says so was
+-- not sent yet
+pub record RunsOut {T E : Type 0} (plans : Plans T E) (i : ℕ) (bytes : List ℕ) (answered : ℕ) (entries : List E) (out : List ℕ) : Type 0 where
+  pub exchanges : List (Exchange E)
+  pub rest : List ℕ
+  pub early : List ℕ
+  pub runs : Runs plans i bytes exchanges answered rest
+  pub stays : StaysOpen exchanges
+  pub is_early : IsEarly rest early
+  pub joined : entries ≡ entries_of exchanges
+  pub sent : out ≡ text_of exchanges ++ early
+
 -- the ends that the input alone decides
 pub data InputEnd : Type 0 where
   by_closing by_cut : InputEnd

@@ -1,14 +1,14 @@
 ghost use Rattle.std.specs.Prelude.{◌≡◌, ℕ, ◌+◌, Bool, List, ◌++◌, length, map};
 ghost use Rattle.http_messages.specs.declared.messages.Message.{Message};
 ghost use Rattle.http_messages.specs.declared.framings.Framing.{Framing};
-ghost use Rattle.http_messages.specs.declared.ends.SessionEnd.{SessionEnd};
-ghost use Rattle.http_messages.specs.declared.ends.SessionEnd.TheVariants.{ReadFault};
+ghost use Rattle.http_messages.specs.declared.ends.SessionEnd.TheVariants.{ReadFault, NoMemory};
+ghost use Rattle.http_messages.specs.ReplyText.{unavailable_text};
 ghost use Rattle.http_model.specs.Hopeless.{RuleAgrees};
 ghost use Rattle.http_model.specs.Bodies.{BodyKind, IsBodyKind};
 ghost use Rattle.http_model.specs.Requests.{AreRequests};
 ghost use Rattle.http_model.specs.Rests.{HeadKind, IsHeadKind, RestKind, IsRest};
 ghost use Rattle.http_model.specs.Exchanges.{Plans, Exchange, Runs, IsWhole};
-ghost use Rattle.http_model.specs.Served.{Served, InputEnd, end_of};
+ghost use Rattle.http_model.specs.Served.{Served, RunsOut, InputEnd, end_of};
 ghost use Rattle.http_model.specs.Laws.{HeadsDecided, ReadStays, NoMessageBegins};
 
 // ---- what stands in some bytes is one thing
@@ -91,4 +91,10 @@ pub fn served_is_one<T, E>()
     ensures { (plans : Plans T E) (i : ℕ) (bytes t u : List ℕ) (v w : Bool) (j k : ℕ) (entries : List E) (a b : List ℕ) (one other : InputEnd)
         → Served plans i bytes t v j entries a (end_of one) → Served plans i bytes u w k entries b (end_of other)
         → (a ≡ b) × (one ≡ other) × (j ≡ k) }
+{}
+
+/// Where memory ran out and the text that says so is then sent, the session has ended for want of memory.
+pub fn memory_runs_out<T, E>()
+    ensures { (plans : Plans T E) (i : ℕ) (taken untaken : List ℕ) (worn : Bool) (j : ℕ) (entries : List E) (out : List ℕ)
+        → RunsOut plans i (taken ++ untaken) j entries out → Served plans i (taken ++ untaken) taken worn j entries (out ++ unavailable_text) NoMemory }
 {}
