@@ -204,11 +204,11 @@ old_head_bytes = codes "\r\nHEAD /x HTTP/1.0\n\n"
 abbrev old_head_message : Message
 old_head_message = record { method = codes "HEAD"; target = codes "/x"; minor = 0; fields = []; body = [] }
 
-old_head_reads : ReadsMessage (old_head_bytes ++ codes "\0") old_head_message (codes "\0")
+old_head_reads : ReadsMessage (old_head_bytes ++ codes "??") old_head_message (codes "??")
 unfolding print_request is_token_byte framing_of comma_parts trim_ows
 old_head_reads = record {
   bare = old_head_message;
-  middle = codes "\0";
+  middle = codes "??";
   head = record {
     head = record { blank = crlf ∷ []; method = codes "HEAD"; target = codes "/x"; minor = 0; line_end = lf; fields = []; last = lf };
     reads = record {
@@ -242,17 +242,17 @@ abbrev old_exchange : Exchange (ℕ × Reply)
 old_exchange = record { number = 1; message = old_head_message; reply = not_found; entries = [] }
 
 -- the reply has no body and closes, and what follows is not judged
-closed_by_last : Served all_fixed 0 (old_head_bytes ++ codes "\0") (old_head_bytes ++ codes "\0") false 1 []
+closed_by_last : Served all_fixed 0 (old_head_bytes ++ codes "??") (old_head_bytes ++ codes "??") false 1 []
     (codes "HTTP/1.1 404 Not Found\r\nVary: Accept\r\nContent-Type: application/vnd.api+json\r\nContent-Length: 68\r\nConnection: close\r\n\r\n") Closed
 unfolding reply_text reason digits expects_continue framing_of comma_parts trim_ows is_head closes
 closed_by_last = record {
   untaken = [];
   front = refl;
   exchanges = old_exchange ∷ [];
-  rest = codes "\0";
+  rest = codes "??";
   more = [];
   tail = [];
-  runs = (codes "\0", old_head_reads, refl, (refl, refl), (refl, refl));
+  runs = (codes "??", old_head_reads, refl, (refl, refl), (refl, refl));
   joined = refl;
   sent = refl;
   ends = (
