@@ -1,5 +1,5 @@
--- The rows that asked paths reach.
-use Rattle.std.specs.Prelude.{◌≡◌, ℕ, ◌≤◌, ◌&&◌, not, Bool, List, [], ◌∷◌, ◌++◌, map, length, take, IsTrue, ◌⊎◌, false}
+-- The rows that asked paths reach (JSON:API 1.1, "Inclusion of Related Resources").
+use Rattle.std.specs.Prelude.{◌≡◌, ℕ, ◌≤◌, ◌&&◌, not, Bool, List, [], ◌∷◌, ◌++◌, map, length, take, IsTrue, false}
 use Rattle.std.specs.Option.{option_map_or}
 use Rattle.std.specs.List.{list_any, flat_map}
 use Rattle.std.specs.FinMap.Entries.{where_key}
@@ -8,12 +8,8 @@ use Rattle.resource_schema.specs.declared.schema.Schema.{Schema}
 use Rattle.world_cells.specs.declared.rows.Row.{Row}
 use Rattle.task_forms.specs.declared.queries.Path.{Path}
 use Rattle.ident_rules.specs.Key.{key_cmp, same_key}
+use Rattle.world_cells.specs.Lists.{IsIn}
 use Rattle.world_cells.specs.World.{World, row_at, linked, links_to}
-
--- x is one of the items
-abbrev pub IsIn : {A : Type 0} → List A → A → Type 0
-IsIn [] x = ⊥
-IsIn (y ∷ ys) x = (y ≡ x) ⊎ IsIn ys x
 
 -- ---- as a relation
 

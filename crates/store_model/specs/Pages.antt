@@ -1,4 +1,4 @@
--- The order of rows, and one page of them.
+-- The order of rows, and one page of them (JSON:API 1.1, "Sorting"; Cursor Pagination profile).
 use Rattle.std.specs.Prelude.{ℕ, ℤ, ◌-◌, ◌==◌, Bool, true, false, List, [], ◌∷◌, map, length, take, drop, get_or, Some, None, Option, pos, refl}
 use Rattle.std.specs.Option.{option_map_or}
 use Rattle.std.specs.List.{list_any, filter_map, last_or}
@@ -19,7 +19,7 @@ use Rattle.ident_rules.specs.IdOrder.{id_cmp, id_cmp_total}
 use Rattle.ident_rules.specs.Key.{key_cmp}
 use Rattle.world_cells.specs.World.{World, row_at}
 
--- ---- the order of values: null first, false before true, integers by size, texts by bytes
+-- ---- the order of values (of this project): null first, false before true, integers by size, texts by bytes
 
 abbrev pub form_number : AttrValue → ℕ
 form_number value.Null = 0
@@ -75,45 +75,55 @@ by_place sort (row ∷ rows) = put (place_cmp sort) (place_of sort row) row (by_
 abbrev pub sorted : List SortKey → List Row → List Row
 sorted sort rows = map (λ e. e.1) (by_place sort rows)
 
--- ---- one page
+-- ---- one page ("Pagination")
 
 -- the last n items
 abbrev pub last_items : {A : Type 0} → ℕ → List A → List A
 last_items n xs = drop (length xs - n) xs
 
--- The first items after a cursor, the last before one, or else the first.
-abbrev pub slice_of : List SortKey → Page → List (Place × Row) → List (Place × Row)
-slice_of sort page all = elim (page.after) [
-  | Some cursor ↦ take page.size (where_key (place_cmp sort) (λ p. is_lt (place_cmp sort cursor p)) all)
-  | None ↦ elim (page.before) [
-    | Some cursor ↦ last_items page.size (where_key (place_cmp sort) (λ p. is_lt (place_cmp sort p cursor)) all)
-    | None ↦ take page.size all
-  ]
-]
+abbrev pub first_item : {A : Type 0} → List A → Option A
+first_item [] = None
+first_item (x ∷ xs) = Some x
 
+abbrev pub last_item : {A : Type 0} → List A → Option A
+last_item = last_or None
+
+-- the items behind a cursor, and those before one
+abbrev pub behind : List SortKey → Place → List (Place × Row) → List (Place × Row)
+behind sort cursor all = where_key (place_cmp sort) (λ p. is_lt (place_cmp sort cursor p)) all
+
+abbrev pub before : List SortKey → Place → List (Place × Row) → List (Place × Row)
+before sort cursor all = where_key (place_cmp sort) (λ p. is_lt (place_cmp sort p cursor)) all
+
+-- The first items behind a cursor, the last before one, or else the first (Cursor Pagination profile, "page[after] and page[before]").
+abbrev pub slice_between : List SortKey → ℕ → Option Place → Option Place → List (Place × Row) → List (Place × Row)
+slice_between sort size (Some cursor) low all = take size (behind sort cursor all)
+slice_between sort size None (Some cursor) all = last_items size (before sort cursor all)
+slice_between sort size None None all = take size all
+
+abbrev pub slice_of : List SortKey → Page → List (Place × Row) → List (Place × Row)
+slice_of sort page all = slice_between sort page.size page.after page.before all
+
+-- the rows of a page, and whether a row stands before its first and behind its last
 pub record Selected : Type 0 where
   pub rows : List Row
   pub before : Bool
   pub after : Bool
 
 abbrev pub any_before : List SortKey → List (Place × Row) → List (Place × Row) → Bool
-any_before sort [] all = false
-any_before sort (e ∷ items) all = list_any (λ other. is_lt (place_cmp sort other.0 e.0)) all
-
-abbrev pub last_of : {A : Type 0} → List A → Option A
-last_of = last_or None
+any_before sort items all = option_map_or (λ e. list_any (λ other. is_lt (place_cmp sort other.0 e.0)) all) (first_item items) false
 
 abbrev pub any_after : List SortKey → List (Place × Row) → List (Place × Row) → Bool
-any_after sort items all = option_map_or (λ e. list_any (λ other. is_lt (place_cmp sort e.0 other.0)) all) (last_of items) false
+any_after sort items all = option_map_or (λ e. list_any (λ other. is_lt (place_cmp sort e.0 other.0)) all) (last_item items) false
 
--- the page, and whether an item stands before its first and after its last
+-- one page of some rows; without a row, nothing stands before or behind it
 abbrev pub page_of : List SortKey → Page → List Row → Selected
 page_of sort page rows =
     let all = by_place sort rows in
     let items = slice_of sort page all in
     record { rows = map (λ e. e.1) items; before = any_before sort items all; after = any_after sort items all }
 
--- the rows of a type
+-- the rows of a type, by id
 abbrev pub rows_of : World → ℕ → List Row
 rows_of w kind = map (λ e. e.1) (where_key key_cmp (λ k. k.kind == kind) w.rows)
 

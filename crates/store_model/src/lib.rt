@@ -1,13 +1,5 @@
-// A library with one function.
+//! What the store means, as definitions: valid worlds, operations and lists of them, pages, included rows, documents,
+//! answers, and what a task may look at. The code here is laws alone: each is the contract of a function that does nothing.
 #![tactic(auto)]
 
-ghost use Rattle.std.specs.Prelude.{◌≡◌};
-ghost use Rattle.store_model.specs.Echo.{echo_of};
-
-// The `ensures` clause is the contract: what `echo` returns is `echo_of` of its argument, a definition
-// in `specs/Echo.antt`, which a caller's clause can cite too.
-pub fn echo(x: usize) -> usize
-    ensures { result ≡ echo_of x }
-{
-    x
-}
+mod laws;
