@@ -16,7 +16,8 @@ use Rattle.http_messages.specs.declared.framings.HeadFault.TheVariants.{Host, Tw
 use Rattle.http_model.specs.Framings.{comma_parts, framing_of, expects_continue, closes, interim_of}
 use Rattle.http_model.specs.Bodies.{Chunk, IsChunk, ReadsChunked, bad_end, IsBadChunked, IsLargeChunked}
 use Rattle.http_messages.specs.declared.framings.RefusedRest.TheVariants.{Hopeless, TooLarge, TooMany, Head, BadChunk, LargeBody}
-use Rattle.http_model.specs.Refusals.{error_body, refusal_of}
+use Rattle.json.specs.Print.{escape_byte}
+use Rattle.http_model.specs.Refusals.{refusal_of}
 use Rattle.http_model.specs.Hopeless.{target_so_far, start_of}
 
 abbrev field : List ℕ → List ℕ → MessageField
@@ -240,55 +241,55 @@ asks_no_refused = refl
 -- ---- the replies to what is refused
 
 refused_hopeless : reply_text (refusal_of Hopeless) false true ≡ codes "HTTP/1.1 400 Bad Request\r\nVary: Accept\r\nContent-Type: application/vnd.api+json\r\nContent-Length: 78\r\nConnection: close\r\n\r\n{\"errors\":[{\"code\":\"bad-message\",\"status\":\"400\",\"title\":\"Malformed message\"}]}"
-unfolding reply_text reason digits error_body
+unfolding reply_text reason digits escape_byte refusal_of
 refused_hopeless = refl
 
 refused_large : reply_text (refusal_of TooLarge) false true ≡ codes "HTTP/1.1 431 Request Header Fields Too Large\r\nVary: Accept\r\nContent-Type: application/vnd.api+json\r\nContent-Length: 78\r\nConnection: close\r\n\r\n{\"errors\":[{\"code\":\"head-too-large\",\"status\":\"431\",\"title\":\"Head too large\"}]}"
-unfolding reply_text reason digits error_body
+unfolding reply_text reason digits escape_byte refusal_of
 refused_large = refl
 
 refused_many : reply_text (refusal_of TooMany) false true ≡ codes "HTTP/1.1 431 Request Header Fields Too Large\r\nVary: Accept\r\nContent-Type: application/vnd.api+json\r\nContent-Length: 78\r\nConnection: close\r\n\r\n{\"errors\":[{\"code\":\"head-too-large\",\"status\":\"431\",\"title\":\"Head too large\"}]}"
-unfolding reply_text reason digits error_body
+unfolding reply_text reason digits escape_byte refusal_of
 refused_many = refl
 
 refused_host : reply_text (refusal_of (Head Host)) false true ≡ codes "HTTP/1.1 400 Bad Request\r\nVary: Accept\r\nContent-Type: application/vnd.api+json\r\nContent-Length: 78\r\nConnection: close\r\n\r\n{\"errors\":[{\"code\":\"bad-message\",\"status\":\"400\",\"title\":\"Malformed message\"}]}"
-unfolding reply_text reason digits error_body
+unfolding reply_text reason digits escape_byte refusal_of
 refused_host = refl
 
 refused_framings : reply_text (refusal_of (Head TwoFramings)) false true ≡ codes "HTTP/1.1 400 Bad Request\r\nVary: Accept\r\nContent-Type: application/vnd.api+json\r\nContent-Length: 78\r\nConnection: close\r\n\r\n{\"errors\":[{\"code\":\"bad-message\",\"status\":\"400\",\"title\":\"Malformed message\"}]}"
-unfolding reply_text reason digits error_body
+unfolding reply_text reason digits escape_byte refusal_of
 refused_framings = refl
 
 refused_coding : reply_text (refusal_of (Head BadCoding)) false true ≡ codes "HTTP/1.1 400 Bad Request\r\nVary: Accept\r\nContent-Type: application/vnd.api+json\r\nContent-Length: 78\r\nConnection: close\r\n\r\n{\"errors\":[{\"code\":\"bad-message\",\"status\":\"400\",\"title\":\"Malformed message\"}]}"
-unfolding reply_text reason digits error_body
+unfolding reply_text reason digits escape_byte refusal_of
 refused_coding = refl
 
 refused_unknown : reply_text (refusal_of (Head UnknownCoding)) false true ≡ codes "HTTP/1.1 501 Not Implemented\r\nVary: Accept\r\nContent-Type: application/vnd.api+json\r\nContent-Length: 87\r\nConnection: close\r\n\r\n{\"errors\":[{\"code\":\"unknown-coding\",\"status\":\"501\",\"title\":\"Unknown transfer coding\"}]}"
-unfolding reply_text reason digits error_body
+unfolding reply_text reason digits escape_byte refusal_of
 refused_unknown = refl
 
 refused_length : reply_text (refusal_of (Head BadLength)) false true ≡ codes "HTTP/1.1 400 Bad Request\r\nVary: Accept\r\nContent-Type: application/vnd.api+json\r\nContent-Length: 78\r\nConnection: close\r\n\r\n{\"errors\":[{\"code\":\"bad-message\",\"status\":\"400\",\"title\":\"Malformed message\"}]}"
-unfolding reply_text reason digits error_body
+unfolding reply_text reason digits escape_byte refusal_of
 refused_length = refl
 
 refused_long : reply_text (refusal_of (Head LongBody)) false true ≡ codes "HTTP/1.1 413 Content Too Large\r\nVary: Accept\r\nContent-Type: application/vnd.api+json\r\nContent-Length: 78\r\nConnection: close\r\n\r\n{\"errors\":[{\"code\":\"body-too-large\",\"status\":\"413\",\"title\":\"Body too large\"}]}"
-unfolding reply_text reason digits error_body
+unfolding reply_text reason digits escape_byte refusal_of
 refused_long = refl
 
 refused_expect : reply_text (refusal_of (Head Expectation)) false true ≡ codes "HTTP/1.1 417 Expectation Failed\r\nVary: Accept\r\nContent-Type: application/vnd.api+json\r\nContent-Length: 88\r\nConnection: close\r\n\r\n{\"errors\":[{\"code\":\"unknown-expectation\",\"status\":\"417\",\"title\":\"Unknown expectation\"}]}"
-unfolding reply_text reason digits error_body
+unfolding reply_text reason digits escape_byte refusal_of
 refused_expect = refl
 
 refused_chunk : reply_text (refusal_of BadChunk) false true ≡ codes "HTTP/1.1 400 Bad Request\r\nVary: Accept\r\nContent-Type: application/vnd.api+json\r\nContent-Length: 78\r\nConnection: close\r\n\r\n{\"errors\":[{\"code\":\"bad-message\",\"status\":\"400\",\"title\":\"Malformed message\"}]}"
-unfolding reply_text reason digits error_body
+unfolding reply_text reason digits escape_byte refusal_of
 refused_chunk = refl
 
 refused_body : reply_text (refusal_of LargeBody) false true ≡ codes "HTTP/1.1 413 Content Too Large\r\nVary: Accept\r\nContent-Type: application/vnd.api+json\r\nContent-Length: 78\r\nConnection: close\r\n\r\n{\"errors\":[{\"code\":\"body-too-large\",\"status\":\"413\",\"title\":\"Body too large\"}]}"
-unfolding reply_text reason digits error_body
+unfolding reply_text reason digits escape_byte refusal_of
 refused_body = refl
 
 refused_to_head : reply_text (refusal_of (Head Host)) true true ≡ codes "HTTP/1.1 400 Bad Request\r\nVary: Accept\r\nContent-Type: application/vnd.api+json\r\nContent-Length: 78\r\nConnection: close\r\n\r\n"
-unfolding reply_text reason digits error_body
+unfolding reply_text reason digits escape_byte refusal_of
 refused_to_head = refl
 
 -- ---- targets so far

@@ -19,7 +19,8 @@ use Rattle.http_messages.specs.ReplyText.{reason, reply_text}
 use Rattle.http_model.specs.Heads.{is_visible}
 use Rattle.http_model.specs.Framings.{framing_of, comma_parts, expects_continue, is_head, closes}
 use Rattle.http_model.specs.Requests.{ReadsWholeHead, ReadsMessage}
-use Rattle.http_model.specs.Refusals.{error_body}
+use Rattle.json.specs.Print.{escape_byte}
+use Rattle.http_model.specs.Refusals.{refusal_of}
 use Rattle.http_model.specs.Exchanges.{planned_reply, planned_task, Plans, Exchange, closes_by}
 use Rattle.http_model.specs.Served.{Served}
 use Rattle.http_model.proofs.Heads.{ascii_of}
@@ -171,7 +172,7 @@ two_framings_reads = record {
 -- one reply, and what follows is not read
 refused_framings : Served all_tasks 0 (two_framings_head ++ next_bytes) two_framings_head false 0 []
     (codes "HTTP/1.1 400 Bad Request\r\nVary: Accept\r\nContent-Type: application/vnd.api+json\r\nContent-Length: 78\r\nConnection: close\r\n\r\n{\"errors\":[{\"code\":\"bad-message\",\"status\":\"400\",\"title\":\"Malformed message\"}]}") (Refused 400)
-unfolding reply_text reason digits error_body framing_of comma_parts trim_ows is_head
+unfolding reply_text reason digits escape_byte refusal_of framing_of comma_parts trim_ows is_head
 refused_framings = record {
   untaken = next_bytes;
   front = refl;
