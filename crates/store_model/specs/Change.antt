@@ -26,6 +26,8 @@ use Rattle.error_objects.specs.declared.codes.Code.TheVariants as code
 use Rattle.error_objects.specs.declared.refusals.Blame.{Blame}
 use Rattle.error_objects.specs.declared.refusals.Blame.TheVariants as blame
 use Rattle.error_objects.specs.declared.refusals.Refusal.{Refusal}
+use Rattle.error_objects.specs.Refusals.{refusal, at_pointer}
+use Rattle.task_forms.specs.Fit.{kind_of}
 use Rattle.ident_rules.specs.IdOrder.{id_cmp}
 use Rattle.ident_rules.specs.Key.{key_cmp, same_key}
 use Rattle.world_cells.specs.World.{World, row_at, has_row, next_id, ids_of, no_link, link_at, links_to}
