@@ -1,5 +1,5 @@
 -- What it says to open a source by its name, and to give it back.
-use Rattle.std.specs.Prelude.{◌≡◌, ℕ, ◌<◌, ◌≤◌, List, [], ⊤, Result, Ok, Err, IfSome, IsSome, Some, None}
+use Rattle.std.specs.Prelude.{◌≡◌, ℕ, ◌<◌, ◌≤◌, List, [], ⊤, Result, Ok, Err, IfSome, IsSome, None}
 use Rattle.std.specs.List.{find}
 use Rattle.std.specs.Str.{bytes_eq}
 use Rattle.std.specs.Option.{option_map}

@@ -30,6 +30,20 @@ impl<R: Files> FileOpener<R> {
             faults: 0,
         }
     }
+
+    /// How often a path was not there; it stays at the greatest `u64`.
+    pub fn misses(&self) -> u64
+        ensures { result ≡ ⟦<FileOpener<R> as Opener>⟧.misses self.now }
+    {
+        self.misses
+    }
+
+    /// How often it, or a file that was given back, has failed; it stays at the greatest `u64`.
+    pub fn faults(&self) -> u64
+        ensures { result ≡ ⟦<FileOpener<R> as Opener>⟧.faults self.now }
+    {
+        self.faults
+    }
 }
 
 impl<R: Files> Opener for FileOpener<R> {

@@ -65,6 +65,20 @@ impl MemoryOpener {
             faults: 0,
         }
     }
+
+    /// How often a name was not there; it stays at the greatest `u64`.
+    pub fn misses(&self) -> u64
+        ensures { result ≡ self.now.misses }
+    {
+        self.misses
+    }
+
+    /// How often it, or a source that was given back, has failed; it stays at the greatest `u64`.
+    pub fn faults(&self) -> u64
+        ensures { result ≡ self.now.faults }
+    {
+        self.faults
+    }
 }
 
 /// The first file of that name.
@@ -78,10 +92,7 @@ fn file_of<'a>(
 }
 
 /// A source over a copy of the file's bytes.
-fn source_of(
-    alloc: Global,
-    file: &(String, Vec<u8>, Vec<u64>),
-) -> Result<MemorySource, AllocError>
+fn source_of(alloc: Global, file: &(String, Vec<u8>, Vec<u64>)) -> Result<MemorySource, AllocError>
     ensures { IfOk result (λ source. source ≡ opened (file_state file.now)) }
 {
     let bytes = Vec::from_slice(alloc, &file.1)?;

@@ -1,3 +1,6 @@
+pub mod CellLaws
 pub mod CellOrder
+pub mod Decided
+pub mod Lists
 pub mod Reads
 pub mod World

@@ -2,16 +2,15 @@ use Rattle.std.proofs.Common.{◌≡◌, List, ℕ, map, Some, None, refl, ap, s
 use Rattle.std.specs.List.{find}
 use Rattle.std.specs.Str.{bytes_eq}
 use Rattle.std.specs.Prelude.{IsSome}
-use Rattle.std.specs.Option.{option_copied, option_map}
+use Rattle.std.specs.Option.{option_map}
 use Rattle.std.specs.declared.option.Option.{Option}
-use Rattle.outer_ends.specs.Memory.{FileState, OpenerState, SourceState, file_state, file_named, opened, named_bytes}
-use Rattle.outer_ends.specs.Opens.{bytes_of}
+use Rattle.outer_ends.specs.Memory.{FileState, OpenerState, SourceState, file_state, file_named, opened}
 use Rattle.outer_ends.proofs.OpenLemmas.{bytes_of_named, find_mapped}
 use Rattle.outer_ends.proofs.openers.MemoryOpenerOpener.open.Goals as goal
 
 -- what the look-up in the files found is what their states have of the name
 named_state : (name : List ℕ) (s : OpenerState) (files : List (String Global × Vec ℕ Global × Vec ℕ Global)) (found : Option (String Global × Vec ℕ Global × Vec ℕ Global)) →
-  map file_state files ≡ s.files → found ≡ find (λ f. bytes_eq (string_bytes f.0) name) files → file_named name s.files ≡ option_map file_state found
+    map file_state files ≡ s.files → found ≡ find (λ f. bytes_eq (string_bytes f.0) name) files → file_named name s.files ≡ option_map file_state found
 named_state name s files found view first =
     ap (file_named name) (sym view) ∙ find_mapped (λ (f : FileState). bytes_eq f.name name) file_state files ∙ ap (option_map file_state) (sym first)
 
@@ -32,7 +31,7 @@ returns-in-Ok-clause-found c =
     let named : file_named name c.args.self.now.files ≡ Some (file_state c.in-Some.file.now) =
     named_state name c.args.self.now c.self.inside.files.items _ (ap (λ (s : OpenerState). s.files) c.self.view_is) (c.in-Some.ensures ∙ ap (find (λ f. bytes_eq (string_bytes f.0) name)) c.deref-2.ensures.value) in
     told_some _ c.in-Ok.source.left
-      (bytes_of_named name c.args.self.now.files ∙ ap (option_map (λ file. file.bytes)) named ∙ ap (λ (s : SourceState). Some s.left) (sym (c.in-Ok.ensures)))
+    (bytes_of_named name c.args.self.now.files ∙ ap (option_map (λ file. file.bytes)) named ∙ ap (λ (s : SourceState). Some s.left) (sym (c.in-Ok.ensures)))
 
 pub returns-in-Ok-clause-source : goal.returns-in-Ok-clause-source
 returns-in-Ok-clause-source c =
