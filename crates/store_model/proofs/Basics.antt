@@ -1,6 +1,6 @@
 -- Tests, options and lists.
-use Rattle.std.proofs.Common.{◌≡◌, ℕ, ◌+◌, ◌<◌, ◌≤◌, List, [], ◌∷◌, ◌++◌, Bool, true, false, refl, sym, ap, subst, ◌∙◌, Some, None, Option, inl, inr, zero, suc, arith}
-use Rattle.std.specs.Prelude.{T, ◌||◌, ◌&&◌, ◌⊎◌, not, cond, map, length, slice_get, slice_set, get_or, IsTrue}
+use Rattle.std.proofs.Common.{◌≡◌, ℕ, List, [], ◌∷◌, ◌++◌, Bool, true, false, refl, sym, ap, subst, ◌∙◌, Some, None, inl, inr, zero, suc}
+use Rattle.std.specs.Prelude.{T, ◌||◌, ◌&&◌, ◌⊎◌, not, cond, map, slice_get, slice_set, get_or}
 use Rattle.std.specs.Option.{option_map_or}
 use Rattle.std.specs.declared.cmp.Ordering.{Ordering}
 use Rattle.std.specs.declared.cmp.Ordering.TheVariants.{Less, Equal, Greater}
@@ -223,11 +223,10 @@ module _ {K X : Type 0} (R : K → K → Ordering) where
   pub pairwise_values : (P : X → X → Type 0) (es : List (K × X)) → ((d e : K × X) → IsIn es d → IsIn es e → is_lt (R d.0 e.0) ≡ true → P d.1 e.1) → T (is_sorted R es) → Pairwise P (map (λ e. e.1) es)
   pairwise_values P [] each h = tt
   pairwise_values P (d ∷ es) each h =
-      let parts = T_and _ _ h in
-      (
+      let parts = T_and _ _ h in (
         all_in (P d.1) (map (λ e. e.1) es) (λ x among.
-        let one = from_map (λ (e : K × X). e.1) es x among in
-        subst (P d.1) one.2 (each d one.0 (inl refl) (inr one.1) (below_in d.0 es one.0 parts.0 one.1))),
+            let one = from_map (λ (e : K × X). e.1) es x among in
+            subst (P d.1) one.2 (each d one.0 (inl refl) (inr one.1) (below_in d.0 es one.0 parts.0 one.1))),
         pairwise_values P es (λ a b p q. each a b (inr p) (inr q)) parts.1,
       )
 

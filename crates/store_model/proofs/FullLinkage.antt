@@ -1,10 +1,10 @@
 -- The rows of a document are fully linked.
-use Rattle.std.proofs.Common.{◌≡◌, ◌≢◌, ℕ, ◌≤◌, List, [], ◌∷◌, ◌++◌, Bool, true, false, length, take, refl, sym, ap, subst, ◌∙◌, Some, None, Option, inl, inr, zero, suc, arith}
-use Rattle.std.specs.Prelude.{◌⊎◌, IsTrue, IfSome, is_some, map, option_map, codes}
+use Rattle.std.proofs.Common.{◌≡◌, ◌≢◌, ℕ, ◌≤◌, List, [], ◌∷◌, ◌++◌, true, false, length, take, refl, sym, ap, subst, ◌∙◌, Some, None, Option, inl, inr, zero, suc, arith}
+use Rattle.std.specs.Prelude.{IsTrue, IfSome, is_some, map, option_map, codes}
 use Rattle.std.specs.Option.{option_map_or}
 use Rattle.std.specs.Ordering.{is_lt}
 use Rattle.std.specs.Cmp.{tied_itself}
-use Rattle.std.specs.List.{AllByRecursion, cons_option}
+use Rattle.std.specs.List.{cons_option}
 use Rattle.std.proofs.lemmas.List.{length-map}
 use Rattle.ident_rules.specs.declared.key.Key.{Key}
 use Rattle.ident_rules.specs.Key.{key_cmp, key_cmp_total, same_key}
@@ -27,8 +27,8 @@ use Rattle.store_model.specs.Included.{HasLink, IsReached, IsReachedFrom, includ
 use Rattle.serde_json.specs.Data.{Data, null}
 use Rattle.store_model.specs.Resource.{object_of, resource, collection_path, related_path}
 use Rattle.store_model.specs.Document.{resources, page_links, included_member, page_document, row_document, linked_document, related_document, relationship_name, target_document, document, linked_rows, primary_rows, included_rows}
-use Rattle.store_model.specs.Laws.{Pairwise, AreApart, IsBefore, HasOneCursor, IsPage, HasLesserKey, IsChain, IsChained, IsFullyLinked, ShowsResources, ShowsRows, included_part}
-use Rattle.store_model.proofs.Basics.{false_or_true, same_Some, key_is, one_passes, in_left, in_right, in_append, in_map, from_map, all_in, in_all}
+use Rattle.store_model.specs.Laws.{Pairwise, AreApart, IsBefore, HasOneCursor, HasLesserKey, IsChain, IsChained, IsFullyLinked, ShowsResources, ShowsRows, included_part}
+use Rattle.store_model.proofs.Basics.{false_or_true, key_is, one_passes, in_left, in_right, in_append, in_map, from_map, all_in, in_all}
 use Rattle.store_model.proofs.Paging.{page_exact}
 use Rattle.store_model.proofs.Reaching.{included_exactly, itself}
 use Rattle.store_model.proofs.WorldRows.{rows_of_exactly, rows_at_exactly, rows_of_apart, linked_apart, one_row}
@@ -90,10 +90,9 @@ module _ (schema : Schema) (w : World) (valid : IsValid schema w) where
 
   page_fine : (query : Query) (rows : List Row) → HasOneCursor query.page → AreApart rows → ((row : Row) → IsIn rows row → row_at w row.key ≡ Some row) → AreFine ((page_of query.sort query.page rows).rows)
   page_fine query rows one apart of_world =
-      let page = page_exact query.sort rows apart query.page one in
-      (
+      let page = page_exact query.sort rows apart query.page one in (
         pairwise_weaker (IsBefore query.sort) (λ a b. a.key ≢ b.key) ((page_of query.sort query.page rows).rows) (λ a b p q less e.
-        before_differs query.sort a b less (one_row schema w valid a b (of_world a (page.asked a p).0) (of_world b (page.asked b q).0) e)) page.in_order,
+            before_differs query.sort a b less (one_row schema w valid a b (of_world a (page.asked a p).0) (of_world b (page.asked b q).0) e)) page.in_order,
         λ row among. of_world row (page.asked row among).0,
       )
 
@@ -115,10 +114,13 @@ module _ (schema : Schema) (w : World) (valid : IsValid schema w) where
   primaries_fine query (target.Resource key) one =
       elim (row_at w key) as (λ o. row_at w key ≡ o → AreFine (option_map_or (λ row. row ∷ []) o [])) [
         | None ↦ λ e. none_fine
-        | Some row ↦ λ e. ((tt, tt), λ r among. elim among [
-          | inl is ↦ subst (λ (r : Row). row_at w r.key ≡ Some r) is (ap (row_at w) ((valid.rows key row e).own_key) ∙ e)
-          | inr never ↦ elim never [ ]
-        ])
+        | Some row ↦ λ e. (
+          (tt, tt),
+          λ r among. elim among [
+            | inl is ↦ subst (λ (r : Row). row_at w r.key ≡ Some r) is (ap (row_at w) ((valid.rows key row e).own_key) ∙ e)
+            | inr never ↦ elim never [ ]
+          ],
+        )
       ] refl
   primaries_fine query (target.Related key rel) one =
       elim (row_at w key) as (λ o. AreFine (option_map_or (λ row. linked_rows schema w query row rel (link_at row rel)) o [])) [

@@ -1,12 +1,12 @@
 -- A computed page is one page of its rows, and rows of a type and rows at keys are those of the world.
-use Rattle.std.proofs.Common.{◌≡◌, ℕ, ◌+◌, ◌-◌, ◌<◌, ◌≤◌, List, [], ◌∷◌, ◌++◌, Bool, true, false, length, take, drop, refl, sym, ap, subst, ◌∙◌, Some, None, Option, inl, inr, zero, suc, arith}
-use Rattle.std.specs.Prelude.{T, ◌||◌, ◌&&◌, ◌⊎◌, ◌↔◌, ⊤, IsTrue, IfSome, MatchOption, is_some, map, option_map}
+use Rattle.std.proofs.Common.{◌≡◌, ℕ, ◌-◌, ◌≤◌, List, [], ◌∷◌, true, false, length, take, drop, refl, sym, ap, subst, ◌∙◌, Some, None, Option, inl, inr, zero, suc, arith}
+use Rattle.std.specs.Prelude.{T, ◌⊎◌, ◌↔◌, IsTrue, MatchOption, is_some, map, option_map}
 use Rattle.std.specs.Option.{option_map_or}
 use Rattle.std.specs.declared.cmp.Ordering.{Ordering}
 use Rattle.std.specs.declared.cmp.Ordering.TheVariants.{Less, Equal, Greater}
-use Rattle.std.specs.Ordering.{is_eq, is_lt, ordering_then, nat_cmp}
-use Rattle.std.specs.List.{AllByRecursion, list_any, filter, last_or}
-use Rattle.std.specs.FinMap.Entries.{by_order, put, where_key, is_sorted, is_sorted-put, is_sorted-where_key}
+use Rattle.std.specs.Ordering.{is_lt}
+use Rattle.std.specs.List.{AllByRecursion, list_any, last_or}
+use Rattle.std.specs.FinMap.Entries.{by_order, put, is_sorted, is_sorted-put, is_sorted-where_key}
 use Rattle.std.proofs.lemmas.List.{take-append-drop, length-take-le, length-drop, length-map}
 use Rattle.ident_rules.specs.IdOrder.{id_cmp-IsAntisymmetric, second_equal}
 use Rattle.resource_schema.specs.declared.values.Place.{Place}
@@ -14,8 +14,8 @@ use Rattle.world_cells.specs.declared.rows.Row.{Row}
 use Rattle.world_cells.specs.Lists.{IsIn}
 use Rattle.task_forms.specs.declared.queries.Page.{Page}
 use Rattle.task_forms.specs.declared.queries.SortKey.{SortKey}
-use Rattle.store_model.specs.Pages.{Selected, values_cmp, place_cmp, place_cmp_total, place_of, by_place, last_items, first_item, last_item, behind, before, slice_between, slice_of, any_before, any_after, page_of}
-use Rattle.store_model.specs.Laws.{Pairwise, AreApart, IsBefore, IsBetween, HasNoRoom, HasEarlier, HasLater, HasOneCursor, IsPage}
+use Rattle.store_model.specs.Pages.{values_cmp, place_cmp, place_cmp_total, place_of, by_place, last_items, first_item, last_item, behind, before, slice_between, slice_of, any_before, any_after, page_of}
+use Rattle.store_model.specs.Laws.{AreApart, IsBefore, IsBetween, HasNoRoom, HasEarlier, HasLater, HasOneCursor, IsPage}
 use Rattle.store_model.proofs.Basics.{same_Some, one_passes, passes, in_left, in_right, in_append, in_map, from_map, in_filter, from_filter, all_in, in_all, pairwise_values, sorted_split}
 
 -- ---- one entry more

@@ -1,11 +1,11 @@
 -- The keys that are computed are those that are reached.
 use Rattle.std.proofs.Common.{◌≡◌, ℕ, ◌≤◌, List, [], ◌∷◌, Bool, true, false, length, take, refl, sym, ap, subst, ◌∙◌, Some, None, Option, arith, inl, inr, suc, zero}
-use Rattle.std.specs.Prelude.{◌||◌, ◌&&◌, ◌⊎◌, not, map, cond}
+use Rattle.std.specs.Prelude.{◌&&◌, not}
 use Rattle.std.specs.Option.{option_map_or}
-use Rattle.std.specs.List.{list_any, flat_map}
+use Rattle.std.specs.List.{list_any}
 use Rattle.std.specs.Cmp.{eq_by_cmp_equiv}
 use Rattle.std.specs.Ordering.{is_lt}
-use Rattle.std.specs.FinMap.Entries.{find, where_key, is_sorted-where_key}
+use Rattle.std.specs.FinMap.Entries.{where_key, is_sorted-where_key}
 use Rattle.std.proofs.lemmas.List.Folds.{list_any-append}
 use Rattle.ident_rules.specs.declared.key.Key.{Key}
 use Rattle.resource_schema.specs.declared.schema.Schema.{Schema}
@@ -120,8 +120,8 @@ module _ (schema : Schema) (w : World) where
     in_included row is =
         let among = among_entries row is.of_world in
         let no : not (has_key primaries row.key) ≡ true = not_true _ (λ e.
-            let one = one_passes (same_key row.key) primaries e in
-            is.no_primary (subst (λ (k : Key). IsIn primaries k) (sym (key_is row.key one.0 one.2)) one.1)) in
+        let one = one_passes (same_key row.key) primaries e in
+        is.no_primary (subst (λ (k : Key). IsIn primaries k) (sym (key_is row.key one.0 one.2)) one.1)) in
         in_map (λ (e : Key × Row). e.1) (where_key key_cmp shown_key w.rows) (row.key, row) (
         in_filter (λ (e : Key × Row). shown_key e.0) w.rows (row.key, row) among (
         and_true _ _ (reached_complete primaries paths row.key is.reached) no))

@@ -1,6 +1,6 @@
 -- A list of operations is done, or it tells of its first refused operation.
-use Rattle.std.proofs.Common.{◌≡◌, ℕ, ◌+◌, List, [], ◌∷◌, ◌++◌, Bool, true, false, length, refl, sym, ap, subst, ◌∙◌, Some, None, Option, arith, inl, inr, suc}
-use Rattle.std.specs.Prelude.{Result, Ok, Err, IfSome}
+use Rattle.std.proofs.Common.{◌≡◌, ℕ, ◌+◌, List, [], ◌∷◌, ◌++◌, Bool, true, false, length, refl, sym, ap, subst, ◌∙◌, Some, None, Option, arith, inl, suc}
+use Rattle.std.specs.Prelude.{Result, Ok, Err}
 use Rattle.std.specs.Option.{option_and_then}
 use Rattle.std.specs.List.{AllByRecursion}
 use Rattle.resource_schema.specs.declared.schema.Schema.{Schema}
@@ -17,7 +17,7 @@ use Rattle.task_forms.specs.declared.tasks.ReplyForm.{ReplyForm}
 use Rattle.store_model.specs.Change.{Lids, refused, done, outcome}
 use Rattle.store_model.specs.Run.{Ran, run, run_from, and_then, after_one, operation_pointer, refusal_under, blame_under}
 use Rattle.store_model.specs.Answer.{run_world, run_reply}
-use Rattle.store_model.specs.Laws.{AreDone, IsUnder, IsFirstRefused, IsAllOrNothing, IsPlaced, is_list}
+use Rattle.store_model.specs.Laws.{AreDone, IsUnder, IsAllOrNothing, IsPlaced, is_list}
 use Rattle.store_model.proofs.Basics.{in_right, in_all}
 use Rattle.store_model.proofs.Sources.{refusal_sourced}
 
@@ -99,8 +99,7 @@ all_or_nothing schema w operations form = by (run schema form w operations) refl
     by : (r : Result Ran Refusal) → run schema form w operations ≡ r → Tells schema form 0 w [] operations r → IsAllOrNothing schema w operations form r
     by (Ok ran) e tells = (tells, ap (run_world w) e)
     by (Err r) e tells =
-        let is : r ≡ refusal_under (operation_pointer form (length tells.earlier)) tells.why = tells.told_so ∙ ap (λ n. refusal_under (operation_pointer form n) tells.why) (from_none (length tells.earlier)) in
-        (
+        let is : r ≡ refusal_under (operation_pointer form (length tells.earlier)) tells.why = tells.told_so ∙ ap (λ n. refusal_under (operation_pointer form n) tells.why) (from_none (length tells.earlier)) in (
           record {
             earlier = tells.earlier;
             operation = tells.operation;

@@ -1,5 +1,5 @@
 -- Laws of the store, in the words of its subject.
-use Rattle.std.specs.Prelude.{◌≡◌, ◌≢◌, ◌≤◌, ◌↔◌, ◌⊎◌, ℕ, not, Bool, true, false, ⊤, IsTrue, IfSome, MatchOption, is_some, codes, List, [], ◌∷◌, ◌++◌, map, length, Some, None, Option, Result, Ok, Err}
+use Rattle.std.specs.Prelude.{◌≡◌, ◌≢◌, ◌≤◌, ◌↔◌, ◌⊎◌, ℕ, not, Bool, true, false, ⊤, IsTrue, IfSome, MatchOption, is_some, codes, List, [], ◌∷◌, ◌++◌, length, Some, None, Option, Result, Ok, Err}
 use Rattle.std.specs.List.{AllByRecursion}
 use Rattle.std.specs.Ordering.{is_lt}
 use Rattle.ident_rules.specs.declared.key.Key.{Key}
@@ -24,7 +24,7 @@ use Rattle.task_forms.specs.declared.tasks.ReplyForm.{ReplyForm}
 use Rattle.task_forms.specs.declared.tasks.ReplyForm.TheVariants as reply_form
 use Rattle.task_forms.specs.declared.tasks.Task.TheVariants as task
 use Rattle.store_model.specs.Change.{Lids, refused, done}
-use Rattle.store_model.specs.Run.{Ran, run, operation_pointer, refusal_under}
+use Rattle.store_model.specs.Run.{Ran, operation_pointer, refusal_under}
 use Rattle.store_model.specs.Answer.{answer, effect}
 use Rattle.serde_json.specs.Data.{Data, null}
 use Rattle.resource_schema.specs.declared.targets.Target.{Target}
@@ -33,7 +33,7 @@ use Rattle.task_forms.specs.declared.queries.Query.{Query}
 use Rattle.store_model.specs.Resource.{object_of, resource}
 use Rattle.store_model.specs.Document.{resources}
 use Rattle.store_model.specs.Pages.{Selected, place_cmp, place_of, first_item, last_item}
-use Rattle.store_model.specs.Included.{IsReachedFrom, included}
+use Rattle.store_model.specs.Included.{IsReachedFrom}
 
 -- each item stands in a relation to all that follow it
 abbrev pub Pairwise : {A : Type 0} → (A → A → Type 0) → List A → Type 0

@@ -25,36 +25,31 @@ ghost use Rattle.store_model.specs.Laws.{AreApart, AreIncluded, AreRowsAt, AreRo
 /// from a valid world to a valid one, and a fetch and a reply of status 400 or above change nothing.
 pub fn store_is_lawful()
     ensures { (schema : List Kind) → IsLawful (meaning_of schema) }
-{
-}
+{}
 
 /// A list of operations is done as a whole, or its first refused operation is told and the world stays (Atomic Operations
 /// extension, "Processing").
 pub fn lists_are_all_or_nothing()
     ensures { (schema : List Kind) (w : World) (operations : List Operation) (form : ReplyForm) → IsAllOrNothing schema w operations form (run schema form w operations) }
-{
-}
+{}
 
 /// A refused change blames what the code of its refusal asks for (JSON:API 1.1, "Error Objects"), where the operations
 /// are those of a plain request or of a list, as the form of the reply says.
 pub fn refusals_are_sourced()
     ensures { (schema : List Kind) (form : ReplyForm) (w : World) (operations : List Operation) (r : Refusal) → AllByRecursion (IsPlaced (is_list form)) operations → run schema form w operations ≡ Err r → IsSourced (is_list form) r }
-{
-}
+{}
 
 /// What is computed as included is exactly what the paths reach from the primaries, less the primaries, each row once
 /// and in the order of the keys (JSON:API 1.1, "Inclusion of Related Resources").
 pub fn included_is_reached()
     ensures { (schema : List Kind) (w : World) (primaries : List Key) (paths : List Path) → IsValid schema w → AreIncluded schema w primaries paths (included schema w primaries paths) }
-{
-}
+{}
 
 /// The rows of a type and the rows at some keys are those of the world.
 pub fn rows_are_the_worlds()
     ensures of_type { (schema : List Kind) (w : World) (kind : ℕ) → IsValid schema w → AreRowsOf w kind (rows_of w kind) }
     ensures at_keys { (schema : List Kind) (w : World) (keys : List Key) → IsValid schema w → AreRowsAt w keys (rows_at w keys) }
-{
-}
+{}
 
 /// A page is in order, at most as long as was asked, has nothing that was not asked for and leaves nothing out while it
 /// has room, and says whether a row stands before it and behind it: of any rows that their ids tell apart, of a
@@ -63,13 +58,11 @@ pub fn pages_are_exact()
     ensures rows { (sort : List SortKey) (page : Page) (rows : List Row) → AreApart rows → HasOneCursor page → IsPage sort page rows (page_of sort page rows) }
     ensures collections { (schema : List Kind) (w : World) (kind : ℕ) (sort : List SortKey) (page : Page) → IsValid schema w → HasOneCursor page → IsPage sort page (rows_of w kind) (page_of sort page (rows_of w kind)) }
     ensures relationships { (schema : List Kind) (w : World) (row : Row) (rel : ℕ) (sort : List SortKey) (page : Page) → IsValid schema w → HasOneCursor page → IsPage sort page (rows_at w (linked schema row rel)) (page_of sort page (rows_at w (linked schema row rel))) }
-{
-}
+{}
 
 /// A document shows each resource once, all of them rows of one world, and each that is included is reached from a primary
 /// by links between resources that it shows ("Compound Documents"); its resource objects are those of these rows.
 pub fn documents_are_fully_linked()
     ensures linked { (schema : List Kind) (w : World) (fetch : Fetch) → IsValid schema w → HasOneCursor fetch.query.page → IsFullyLinked schema w (primary_rows schema w fetch.query fetch.target) (included_rows schema w fetch) }
     ensures shown { (schema : List Kind) (w : World) (fetch : Fetch) → ShowsResources fetch.target → IfSome (document schema w fetch) (ShowsRows schema fetch.query (primary_rows schema w fetch.query fetch.target) (included_rows schema w fetch)) }
-{
-}
+{}
