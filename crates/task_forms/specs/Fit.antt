@@ -1,6 +1,6 @@
 -- Which tasks are fit for a schema: what a store may be asked (of this project).
-use Rattle.std.specs.Prelude.{◌≡◌, ℕ, ◌||◌, ◌==◌, ◌+◌, ◌<◌, ◌≤◌, ◌^◌, Bool, true, false, IsTrue, List, [], ◌∷◌, map, length, is_some, Some, None, MatchOption, IfSome, Option, ⊤, slice_get, option_map}
-use Rattle.std.specs.List.{AllByRecursion, AllZip, list_all}
+use Rattle.std.specs.Prelude.{◌≡◌, ℕ, ◌+◌, ◌<◌, ◌≤◌, ◌^◌, Bool, true, false, IsTrue, List, [], ◌∷◌, map, length, is_some, Some, None, MatchOption, IfSome, Option, ⊤, slice_get, option_map}
+use Rattle.std.specs.List.{AllByRecursion, AllZip}
 use Rattle.std.specs.Str.Parse.{AllDigits}
 use Rattle.ident_rules.specs.declared.key.Key.{Key}
 use Rattle.resource_schema.specs.declared.schema.Schema.{Schema}

@@ -1,0 +1,8 @@
+pub mod Agreement
+pub mod CommitLaws
+pub mod Decided
+pub mod Histories
+pub mod Laws
+pub mod LogLaws
+pub mod Standing
+pub mod Trials

@@ -1,0 +1,13 @@
+pub mod Heads
+pub mod Targets
+pub mod Hopeless
+pub mod Blanks
+pub mod Messages
+pub mod Framings
+pub mod Bodies
+pub mod Requests
+pub mod Rests
+pub mod Refusals
+pub mod Exchanges
+pub mod Served
+pub mod Laws

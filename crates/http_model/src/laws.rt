@@ -1,0 +1,100 @@
+ghost use Rattle.std.specs.Prelude.{◌≡◌, ℕ, ◌+◌, Bool, List, ◌++◌, length, map};
+ghost use Rattle.http_messages.specs.declared.messages.Message.{Message};
+ghost use Rattle.http_messages.specs.declared.framings.Framing.{Framing};
+ghost use Rattle.http_messages.specs.declared.ends.SessionEnd.TheVariants.{ReadFault, NoMemory};
+ghost use Rattle.http_messages.specs.ReplyText.{unavailable_text};
+ghost use Rattle.http_model.specs.Hopeless.{RuleAgrees};
+ghost use Rattle.http_model.specs.Bodies.{BodyKind, IsBodyKind};
+ghost use Rattle.http_model.specs.Requests.{AreRequests};
+ghost use Rattle.http_model.specs.Rests.{HeadKind, IsHeadKind, RestKind, IsRest};
+ghost use Rattle.http_model.specs.Exchanges.{Plans, Exchange, Runs, IsWhole};
+ghost use Rattle.http_model.specs.Served.{Served, RunsOut, InputEnd, end_of};
+ghost use Rattle.http_model.specs.Laws.{HeadsDecided, ReadStays, NoMessageBegins};
+
+// ---- what stands in some bytes is one thing
+
+/// What begins a message is one of a whole head, one with too many fields, an open part of one, too large
+/// a part, and hopeless bytes; and of a whole head one reading.
+pub fn heads_are_one()
+    ensures { (rest : List ℕ) (one other : HeadKind) → IsHeadKind rest one → IsHeadKind rest other → one ≡ other }
+{}
+
+/// What begins a body is one of a whole body, one refused piece and its place, too much data, and a part
+/// of a body.
+pub fn bodies_are_one()
+    ensures { (framing : Framing) (bytes : List ℕ) (one other : BodyKind) → IsBodyKind framing bytes one → IsBodyKind framing bytes other → one ≡ other }
+{}
+
+/// A stream has one list of messages, and one rest.
+pub fn requests_are_one()
+    ensures { (i : ℕ) (bytes : List ℕ) (ms ns : List Message) (r q : List ℕ)
+        → AreRequests i bytes ms r → AreRequests i bytes ns q → (ms ≡ ns) × (r ≡ q) }
+{}
+
+/// A rest is one of: between messages, a part of a message, refused for one reason, begun by a message. Its
+/// interim text, and whether its head is one of a HEAD request, are one too.
+pub fn rests_are_one()
+    ensures { (rest : List ℕ) (one other : RestKind) → IsRest rest one → IsRest rest other → one ≡ other }
+{}
+
+/// No message begins what is between messages, cut or refused.
+pub fn no_message_begins()
+    ensures { NoMessageBegins }
+{}
+
+// ---- heads
+
+/// Bytes that are no whole head are refused at once by one rule, said of what can follow them or of what
+/// stands in them.
+pub fn hopeless_by_rule()
+    ensures { (bytes : List ℕ) → RuleAgrees bytes }
+{}
+
+/// What httparse's answers, and three tests that compute, say of heads.
+pub fn heads_are_decided()
+    ensures { HeadsDecided }
+{}
+
+// ---- more bytes
+
+/// What is read stays read, and what is refused stays refused, whatever bytes follow.
+pub fn read_stays()
+    ensures { ReadStays }
+{}
+
+/// Exchanges that were read stay so, whatever bytes follow.
+pub fn runs_stay<T, E>()
+    ensures { (plans : Plans T E) (i : ℕ) (bytes more : List ℕ) (xs : List (Exchange E)) (j : ℕ) (rest : List ℕ)
+        → Runs plans i bytes xs j rest → Runs plans i (bytes ++ more) xs j (rest ++ more) }
+{}
+
+// ---- sessions
+
+/// The exchanges of a session are the messages of its bytes, and count them.
+pub fn exchanges_are_requests<T, E>()
+    // Where no further message is answered they are all of the messages.
+    ensures all { (plans : Plans T E) (i : ℕ) (bytes : List ℕ) (xs : List (Exchange E)) (j : ℕ) (rest : List ℕ)
+        → Runs plans i bytes xs j rest → IsWhole xs rest → AreRequests i bytes (map (λ x. x.message) xs) rest }
+    // So they are where the input decides the end,
+    ensures served { (plans : Plans T E) (i : ℕ) (bytes taken : List ℕ) (worn : Bool) (j : ℕ) (entries : List E) (out : List ℕ) (end : InputEnd)
+        → (s : Served plans i bytes taken worn j entries out (end_of end)) → AreRequests i bytes (map (λ x. x.message) s.exchanges) s.rest }
+    // and so they are of the bytes that were taken where the source failed.
+    ensures failed { (plans : Plans T E) (i : ℕ) (bytes taken : List ℕ) (worn : Bool) (j : ℕ) (entries : List E) (out : List ℕ)
+        → (s : Served plans i bytes taken worn j entries out ReadFault) → AreRequests i taken (map (λ x. x.message) s.exchanges) s.rest }
+    ensures counted { (plans : Plans T E) (i : ℕ) (bytes : List ℕ) (xs : List (Exchange E)) (j : ℕ) (rest : List ℕ)
+        → Runs plans i bytes xs j rest → j ≡ i + length xs }
+{}
+
+/// Where the input decides the end, it and the entries decide what is sent, the end and how many messages
+/// were answered.
+pub fn served_is_one<T, E>()
+    ensures { (plans : Plans T E) (i : ℕ) (bytes t u : List ℕ) (v w : Bool) (j k : ℕ) (entries : List E) (a b : List ℕ) (one other : InputEnd)
+        → Served plans i bytes t v j entries a (end_of one) → Served plans i bytes u w k entries b (end_of other)
+        → (a ≡ b) × (one ≡ other) × (j ≡ k) }
+{}
+
+/// Where memory ran out and the text that says so is then sent, the session has ended for want of memory.
+pub fn memory_runs_out<T, E>()
+    ensures { (plans : Plans T E) (i : ℕ) (taken untaken : List ℕ) (worn : Bool) (j : ℕ) (entries : List E) (out : List ℕ)
+        → RunsOut plans i (taken ++ untaken) j entries out → Served plans i (taken ++ untaken) taken worn j entries (out ++ unavailable_text) NoMemory }
+{}

@@ -1,0 +1,50 @@
+-- Limits, worked.
+use Rattle.std.specs.Prelude.{◌≡◌, ℕ, ◌++◌, replicate, true, false, None, Err, codes, refl, is_some}
+use Rattle.serde_json.specs.Data.{Data, null, string, array, object, member, no_members}
+use Rattle.serde_json.specs.View.{items_of}
+use Rattle.resource_schema.specs.declared.values.Form.TheVariants as form
+use Rattle.error_objects.specs.declared.codes.Code.TheVariants as code
+use Rattle.error_objects.specs.Refusals.{at_pointer}
+use Rattle.request_model.specs.Values.{value_from}
+use Rattle.json_forms.specs.Json.{json_of}
+use Rattle.request_model.specs.Queries.{paths_of, sort_keys_of}
+use Rattle.request_model.specs.OperationLists.{operations_of}
+use Rattle.request_model.proofs.OnLiterals.{requests_on_literals}
+use Rattle.request_model.proofs.Blog.{blog}
+
+abbrev list_of : ℕ → Data
+list_of n = object (member (codes "atomic:operations") (array (items_of (replicate n null))) no_members)
+
+too_many_operations : operations_of blog (list_of 1001) ≡ Err (at_pointer code.TooManyOperations (codes "/atomic:operations"))
+unfolding requests_on_literals
+too_many_operations = refl
+
+thousand_operations : operations_of blog (list_of 1000) ≡ Err (at_pointer code.BadDocument (codes "/atomic:operations/0"))
+unfolding requests_on_literals
+thousand_operations = refl
+
+nested_127 : is_some (json_of (replicate 127 91 ++ replicate 127 93)) ≡ true
+unfolding requests_on_literals
+nested_127 = refl
+
+nested_128 : json_of (replicate 128 91 ++ replicate 128 93) ≡ None
+unfolding requests_on_literals
+nested_128 = refl
+
+long_text : is_some (value_from form.Text false (string (replicate 65536 120))) ≡ true
+long_text = refl
+
+too_long_text : value_from form.Text false (string (replicate 65537 120)) ≡ None
+too_long_text = refl
+
+attribute_twice : sort_keys_of blog 0 (codes "title,title,title") ≡ None
+unfolding requests_on_literals
+attribute_twice = refl
+
+sixteen_paths : is_some (paths_of blog 0 (codes "author,author,author,author,author,author,author,author,author,author,author,author,author,author,author,author")) ≡ true
+unfolding requests_on_literals
+sixteen_paths = refl
+
+seventeen_paths : paths_of blog 0 (codes "author,author,author,author,author,author,author,author,author,author,author,author,author,author,author,author,author") ≡ None
+unfolding requests_on_literals
+seventeen_paths = refl

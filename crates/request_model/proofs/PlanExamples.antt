@@ -1,0 +1,109 @@
+-- Plans, worked.
+use Rattle.std.specs.Prelude.{◌≡◌, ℕ, List, [], ◌∷◌, Some, None, codes, refl}
+use Rattle.http_messages.specs.declared.messages.Message.{Message}
+use Rattle.http_messages.specs.declared.messages.Field.{Field}
+use Rattle.resource_schema.specs.declared.values.AttrValue.TheVariants as value
+use Rattle.resource_schema.specs.declared.targets.Target.TheVariants as target
+use Rattle.task_forms.specs.declared.operations.Operation.TheVariants.{Create, Remove, SetLinks, AddLinks, DropLinks}
+use Rattle.task_forms.specs.declared.operations.Named.TheVariants as named
+use Rattle.task_forms.specs.declared.operations.Where.TheVariants as stands
+use Rattle.task_forms.specs.declared.tasks.ReplyForm.TheVariants as reply_form
+use Rattle.task_forms.specs.declared.tasks.Task.TheVariants as task
+use Rattle.task_forms.specs.declared.tasks.Plan.{Plan}
+use Rattle.task_forms.specs.declared.tasks.Plan.TheVariants.{Fixed, Run}
+use Rattle.http_messages.specs.declared.messages.Content.TheVariants as content
+use Rattle.http_messages.specs.declared.messages.Allow.{Allow}
+use Rattle.http_messages.specs.declared.messages.Allow.TheVariants as allow
+use Rattle.request_model.specs.Queries.{no_query}
+use Rattle.resource_schema.specs.Kinds.{notes}
+use Rattle.request_model.specs.Plans.{planned}
+use Rattle.request_model.proofs.OnLiterals.{requests_on_literals}
+use Rattle.request_model.proofs.Blog.{blog}
+
+abbrev field : List ℕ → List ℕ → Field
+field name value = record { name = name; value = value }
+
+abbrev message : List ℕ → List ℕ → List Field → List ℕ → Message
+message method text fields body = record { method = method; target = text; minor = 1; fields = field (codes "Host") (codes "h") ∷ fields; body = body }
+
+abbrev json_api : Field
+json_api = field (codes "Content-Type") (codes "application/vnd.api+json")
+
+abbrev fixed : ℕ → Allow → List ℕ → Plan
+fixed status a body = Fixed (record { status = status; content = content.Plain; location = None; allow = a; body = body })
+
+a_post : planned notes (message (codes "POST") (codes "/notes") (json_api ∷ []) (codes "{\"data\":{\"type\":\"notes\",\"attributes\":{\"text\":\"hello\"}}}"))
+    ≡ Run (task.Change (Create 0 None None (value.Text (codes "hello") ∷ []) [] ∷ []) reply_form.Created)
+unfolding requests_on_literals
+a_post = refl
+
+a_get : planned notes (message (codes "HEAD") (codes "HTTP://h/notes/1") [] []) ≡ Run (task.Fetch (record { target = target.Resource (record { kind = 0; id = codes "1" }); query = no_query }))
+unfolding requests_on_literals
+a_get = refl
+
+-- a type with another parameter
+charset : planned notes (message (codes "POST") (codes "/notes") (field (codes "Content-Type") (codes "application/vnd.api+json; charset=utf-8") ∷ []) (codes "{"))
+    ≡ fixed 415 allow.Nothing (codes "{\"errors\":[{\"code\":\"unsupported-media-type\",\"source\":{\"header\":\"Content-Type\"},\"status\":\"415\",\"title\":\"Unsupported media type\"}]}")
+unfolding requests_on_literals
+charset = refl
+
+none_accepted : planned notes (message (codes "GET") (codes "/notes") (field (codes "Accept") (codes "application/vnd.api+json; charset=utf-8") ∷ []) [])
+    ≡ fixed 406 allow.Nothing (codes "{\"errors\":[{\"code\":\"not-acceptable\",\"source\":{\"header\":\"Accept\"},\"status\":\"406\",\"title\":\"Not acceptable\"}]}")
+unfolding requests_on_literals
+none_accepted = refl
+
+one_accepted : planned notes (message (codes "GET") (codes "/notes") (field (codes "Accept") (codes "application/vnd.api+json; charset=utf-8, application/vnd.api+json") ∷ []) [])
+    ≡ Run (task.Fetch (record { target = target.Collection 0; query = no_query }))
+unfolding requests_on_literals
+one_accepted = refl
+
+unknown_method : planned notes (message (codes "PUT") (codes "/notes/1") [] []) ≡ fixed 405 allow.Resource (codes "{\"errors\":[{\"code\":\"method-not-allowed\",\"status\":\"405\",\"title\":\"Method not allowed\"}]}")
+unfolding requests_on_literals
+unknown_method = refl
+
+no_utf8 : planned notes (message (codes "GET") (codes "/notes/%FF") [] []) ≡ fixed 404 allow.Nothing (codes "{\"errors\":[{\"code\":\"not-found\",\"status\":\"404\",\"title\":\"Not found\"}]}")
+unfolding requests_on_literals
+no_utf8 = refl
+
+no_json : planned notes (message (codes "POST") (codes "/notes") (json_api ∷ []) (codes "{")) ≡ fixed 400 allow.Nothing (codes "{\"errors\":[{\"code\":\"bad-json\",\"status\":\"400\",\"title\":\"Malformed JSON\"}]}")
+unfolding requests_on_literals
+no_json = refl
+
+-- the query is judged before the body
+query_of_post : planned notes (message (codes "POST") (codes "/notes?x=1") (json_api ∷ []) (codes "{"))
+    ≡ fixed 400 allow.Nothing (codes "{\"errors\":[{\"code\":\"unknown-parameter\",\"source\":{\"parameter\":\"x\"},\"status\":\"400\",\"title\":\"Unknown parameter\"}]}")
+unfolding requests_on_literals
+query_of_post = refl
+
+removal : planned blog (message (codes "DELETE") (codes "/people/ann") [] (codes "{")) ≡ Run (task.Change (Remove (record { named = named.Id (record { kind = 2; id = codes "ann" }); place = stands.Plain }) ∷ []) reply_form.Empty)
+unfolding requests_on_literals
+removal = refl
+
+cleared : planned blog (message (codes "PATCH") (codes "/articles/1/relationships/author") (json_api ∷ []) (codes "{\"data\":null}"))
+    ≡ Run (task.Change (SetLinks (record { named = named.Id (record { kind = 0; id = codes "1" }); place = stands.Plain }) 0 [] ∷ []) reply_form.Empty)
+unfolding requests_on_literals
+cleared = refl
+
+post_to_one : planned blog (message (codes "POST") (codes "/articles/1/relationships/author") (json_api ∷ []) (codes "{\"data\":null}"))
+    ≡ fixed 405 allow.One (codes "{\"errors\":[{\"code\":\"method-not-allowed\",\"status\":\"405\",\"title\":\"Method not allowed\"}]}")
+unfolding requests_on_literals
+post_to_one = refl
+
+list_with_extension : planned blog (message (codes "POST") (codes "/operations") (field (codes "Content-Type") (codes "application/vnd.api+json; ext=\"https://jsonapi.org/ext/atomic\"") ∷ []) (codes "{\"atomic:operations\":[{\"op\":\"remove\",\"href\":\"/people/9\"}]}"))
+    ≡ Run (task.Change (Remove (record { named = named.Id (record { kind = 2; id = codes "9" }); place = stands.Href }) ∷ []) reply_form.Results)
+unfolding requests_on_literals
+list_with_extension = refl
+
+bad_target : planned notes (message (codes "GET") (codes "notes") [] []) ≡ fixed 400 allow.Nothing (codes "{\"errors\":[{\"code\":\"bad-target\",\"status\":\"400\",\"title\":\"Malformed request target\"}]}")
+unfolding requests_on_literals
+bad_target = refl
+
+more_comments : planned blog (message (codes "POST") (codes "/articles/1/relationships/comments") (json_api ∷ []) (codes "{\"data\":[{\"type\":\"comments\",\"id\":\"2\"}]}"))
+    ≡ Run (task.Change (AddLinks (record { named = named.Id (record { kind = 0; id = codes "1" }); place = stands.Plain }) 1 (record { named = named.Id (record { kind = 1; id = codes "2" }); index = Some 0 } ∷ []) ∷ []) reply_form.Empty)
+unfolding requests_on_literals
+more_comments = refl
+
+fewer_comments : planned blog (message (codes "DELETE") (codes "/articles/1/relationships/comments") (json_api ∷ []) (codes "{\"data\":[{\"type\":\"comments\",\"id\":\"3\"}]}"))
+    ≡ Run (task.Change (DropLinks (record { named = named.Id (record { kind = 0; id = codes "1" }); place = stands.Plain }) 1 (record { named = named.Id (record { kind = 1; id = codes "3" }); index = Some 0 } ∷ []) ∷ []) reply_form.Empty)
+unfolding requests_on_literals
+fewer_comments = refl

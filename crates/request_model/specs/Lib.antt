@@ -1,0 +1,16 @@
+pub mod Words
+pub mod Options
+pub mod Results
+pub mod Values
+pub mod Targets
+pub mod MediaTypes
+pub mod Negotiation
+pub mod Cursors
+pub mod Queries
+pub mod SchemaFile
+pub mod Documents
+pub mod OperationLists
+pub mod Plans
+pub mod FirstErrors
+pub mod Pieces
+pub mod ListLaws

@@ -1,0 +1,6 @@
+mod Ends
+mod Growth
+mod Heads
+mod Loops
+mod Serving
+mod Steps

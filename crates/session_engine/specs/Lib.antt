@@ -1,0 +1,4 @@
+pub mod Finishing
+pub mod Plans
+pub mod Seen
+pub mod States

@@ -1,0 +1,223 @@
+-- What one call of a session did, by the bytes that it has seen: those that were read and not used before it, and
+-- those that it took. So it is said of any source, and of any cut.
+use Rattle.std.specs.Prelude.{◌≡◌, ◌⊎◌, ℕ, ◌+◌, ◌<◌, ◌≤◌, Bool, true, false, List, [], ◌∷◌, ◌++◌, length, IsTrue, IsFalse, None, Some, IfSome, Result, OnOk, OnErr, ⊤}
+use Rattle.std.specs.declared.option.Option.{Option}
+use Rattle.std.specs.Io.KnownBytes.{Appends, Consumes, IsAtEnd}
+use Rattle.outer_ends.specs.Causes.{Rose}
+use Rattle.outer_ends.specs.Streams.{AppendsFront}
+use Rattle.http_messages.specs.declared.messages.Message.{Message}
+use Rattle.http_messages.specs.declared.messages.Reply.{Reply}
+use Rattle.http_messages.specs.declared.framings.Framing.{Framing}
+use Rattle.http_messages.specs.declared.framings.Framing.TheVariants.{Chunked}
+use Rattle.http_messages.specs.declared.framings.RefusedRest.{RefusedRest}
+use Rattle.http_messages.specs.declared.framings.RefusedRest.TheVariants.{BadChunk, LargeBody}
+use Rattle.http_messages.specs.declared.ends.SessionEnd.{SessionEnd}
+use Rattle.http_messages.specs.declared.ends.SessionEnd.TheVariants.{Closed, Refused, CutShort, ReadFault, WriteFault, NoMemory, Worn}
+use Rattle.http_messages.specs.ReplyText.{reply_text, unavailable_text}
+use Rattle.http_model.specs.Framings.{closes, interim_of, is_head}
+use Rattle.http_model.specs.Bodies.{ReadsBody, IsCutBody, IsBadChunked, IsLargeChunked}
+use Rattle.http_model.specs.Requests.{ReadsMessage}
+use Rattle.http_model.specs.Rests.{IsBetween, IsRefused, IsCut, IsEarly}
+use Rattle.http_model.specs.Exchanges.{planned_task, Exchange, Runs, StaysOpen, LastCloses, text_of, entries_of}
+use Rattle.http_model.specs.Served.{Served, RunsOut, IsProperPrefix}
+use Rattle.task_forms.specs.declared.tasks.Task.{Task}
+use Rattle.task_forms.specs.declared.tasks.Entry.{Entry}
+use Rattle.task_forms.specs.Desks.{last_number}
+use Rattle.session_engine.specs.declared.messages.Taken.{Taken}
+use Rattle.session_engine.specs.declared.messages.Taken.TheVariants as found
+use Rattle.session_engine.specs.declared.sessions.Pending.{Pending}
+use Rattle.session_engine.specs.declared.sessions.Next.{Next}
+use Rattle.session_engine.specs.declared.sessions.Next.TheVariants as next
+use Rattle.session_engine.specs.declared.sessions.Step.{Step}
+use Rattle.session_engine.specs.declared.sessions.Step.TheVariants as step
+use Rattle.session_engine.specs.Plans.{TaskPlans}
+use Rattle.session_engine.specs.States.{SessionState}
+
+-- ---- one message
+
+-- what stands at the front of what was seen, with what was sent for it
+abbrev pub MessageOn : List ℕ → Option (List ℕ) → List ℕ → List ℕ → Taken → Type 0
+MessageOn seen left now sent (found.Whole m) = ReadsMessage seen m now × (sent ≡ interim_of m)
+MessageOn seen left now sent found.End = IsBetween seen × IsAtEnd left × (sent ≡ [])
+MessageOn seen left now sent found.CutShort = IsCut seen sent × IsAtEnd left
+MessageOn seen left now sent (found.Refused why head_only) = IsRefused seen why sent head_only
+MessageOn seen left now sent found.ReadFault = (IsBetween seen × (sent ≡ [])) ⊎ IsCut seen sent
+MessageOn seen left now sent found.WriteFault = (early : List ℕ) × IsEarly seen early × IsProperPrefix sent early
+MessageOn seen left now sent found.NoMemory = IsEarly seen sent
+
+pub record TakesMessage (old now : List ℕ) (taken taken_now left left_now written written_now : Option (List ℕ)) (found : Taken) : Type 0 where
+  pub bytes : List ℕ
+  pub taken_more : Appends taken taken_now bytes
+  pub left_less : Consumes left left_now bytes
+  pub sent : List ℕ
+  pub written_more : Appends written written_now sent
+  pub verdict : MessageOn (old ++ bytes) left_now now sent found
+
+-- the same of a head's body: what is left behind the head, and whether it is the body
+abbrev pub RestOn : Message → Framing → List ℕ → Option (List ℕ) → List ℕ → Taken → Type 0
+RestOn head framing after left now (found.Whole m) = (body : List ℕ) × ReadsBody framing after body now × (m ≡ record head { body = body })
+RestOn head framing after left now found.CutShort = IsCutBody framing after × IsAtEnd left
+RestOn head framing after left now (found.Refused BadChunk head_only) =
+    (framing ≡ Chunked) × ((place : ℕ) × IsBadChunked after place) × (head_only ≡ is_head head)
+RestOn head framing after left now (found.Refused LargeBody head_only) = (framing ≡ Chunked) × IsLargeChunked after × (head_only ≡ is_head head)
+RestOn head framing after left now (found.Refused why head_only) = ⊥
+RestOn head framing after left now found.ReadFault = IsCutBody framing after
+RestOn head framing after left now found.NoMemory = Unit {0}
+RestOn head framing after left now found.End = ⊥
+RestOn head framing after left now found.WriteFault = ⊥
+
+pub record TakesRest (head : Message) (framing : Framing) (old now : List ℕ) (taken taken_now left left_now : Option (List ℕ)) (found : Taken) : Type 0 where
+  pub bytes : List ℕ
+  pub taken_more : Appends taken taken_now bytes
+  pub left_less : Consumes left left_now bytes
+  pub verdict : RestOn head framing (old ++ bytes) left_now now found
+
+abbrev pub TakenCause : ℕ → ℕ → ℕ → ℕ → Taken → Type 0
+TakenCause reads reads_now writes writes_now found.ReadFault = Rose reads reads_now × (writes_now ≡ writes)
+TakenCause reads reads_now writes writes_now found.WriteFault = Rose writes writes_now × (reads_now ≡ reads)
+TakenCause reads reads_now writes writes_now found = (reads_now ≡ reads) × (writes_now ≡ writes)
+
+-- ---- some messages
+
+-- these many messages by then, of which none closes, were read from seen, answered with these entries and sent this text
+pub record Answers (plans : TaskPlans) (i : ℕ) (seen : List ℕ) (answered : ℕ) (rest : List ℕ) (entries : List Entry) (sent : List ℕ) : Type 0 where
+  pub exchanges : List (Exchange Entry)
+  pub runs : Runs plans i seen exchanges answered rest
+  pub stays : StaysOpen exchanges
+  pub joined : entries ≡ entries_of exchanges
+  pub text : sent ≡ text_of exchanges
+
+-- this end does not turn on that no more bytes come
+abbrev pub IsStable : SessionEnd → List (Exchange Entry) → Type 0
+IsStable Closed xs = LastCloses xs
+IsStable CutShort xs = ⊥
+IsStable end xs = Unit {0}
+
+-- the session ended so over what was seen, and would over more
+pub record Settles (plans : TaskPlans) (i : ℕ) (seen : List ℕ) (left : Option (List ℕ)) (worn : Bool) (answered : ℕ)
+    (entries : List Entry) (out : List ℕ) (end : SessionEnd) : Type 0 where
+  pub served : Served plans i seen seen worn answered entries out end
+  pub final : IsAtEnd left ⊎ IsStable end served.exchanges
+
+-- memory ran out behind some messages
+pub record RanOut (plans : TaskPlans) (i : ℕ) (seen : List ℕ) (answered : ℕ) (entries : List Entry) (sent : List ℕ) : Type 0 where
+  pub rest : List ℕ
+  pub text : List ℕ
+  pub before : Answers plans i seen answered rest entries text
+  pub early : List ℕ
+  pub is_early : IsEarly rest early
+  pub whole : sent ≡ text ++ early
+
+-- behind some messages comes a task, whose interim text was sent
+pub record Asks (plans : TaskPlans) (i : ℕ) (seen : List ℕ) (now : SessionState) (sent : List ℕ) (task : Task) : Type 0 where
+  pub middle : List ℕ
+  pub text : List ℕ
+  pub before : Answers plans i seen now.answered middle [] text
+  pub message : Message
+  pub reads : ReadsMessage middle message now.buffer
+  pub planned : plans.plan message ≡ planned_task task
+  pub pending : now.pending ≡ Some (record { head_only = is_head message; close = closes message (now.answered + 1) })
+  pub whole : sent ≡ text ++ interim_of message
+  pub few : now.answered < 1000000
+
+abbrev pub EndOn : TaskPlans → ℕ → List ℕ → Option (List ℕ) → ℕ → List ℕ → SessionEnd → Type 0
+EndOn plans i seen left answered sent NoMemory = RanOut plans i seen answered [] sent
+EndOn plans i seen left answered sent end = Settles plans i seen left false answered [] sent end
+
+abbrev pub StepOn : TaskPlans → ℕ → List ℕ → Option (List ℕ) → SessionState → List ℕ → Step → Type 0
+StepOn plans i seen left now sent step.Answered = Answers plans i seen now.answered now.buffer [] sent × (i < now.answered) × (now.answered < 1000000)
+StepOn plans i seen left now sent (step.Task t) = Asks plans i seen now sent t
+StepOn plans i seen left now sent (step.Ended e) = EndOn plans i seen left now.answered sent e
+
+abbrev pub NextOn : TaskPlans → ℕ → List ℕ → Option (List ℕ) → SessionState → List ℕ → Next → Type 0
+NextOn plans i seen left now sent (next.Task t) = Asks plans i seen now sent t
+NextOn plans i seen left now sent (next.Ended e) = EndOn plans i seen left now.answered sent e
+
+pub record StepSees (plans : TaskPlans) (old now : SessionState)
+    (taken taken_now left left_now written written_now : Option (List ℕ)) (result : Step) : Type 0 where
+  pub bytes : List ℕ
+  pub taken_more : Appends taken taken_now bytes
+  pub left_less : Consumes left left_now bytes
+  pub sent : List ℕ
+  pub written_more : Appends written written_now sent
+  pub verdict : StepOn plans old.answered (old.buffer ++ bytes) left_now now sent result
+
+pub record NextSees (plans : TaskPlans) (old now : SessionState)
+    (taken taken_now left left_now written written_now : Option (List ℕ)) (result : Next) : Type 0 where
+  pub bytes : List ℕ
+  pub taken_more : Appends taken taken_now bytes
+  pub left_less : Consumes left left_now bytes
+  pub sent : List ℕ
+  pub written_more : Appends written written_now sent
+  pub verdict : NextOn plans old.answered (old.buffer ++ bytes) left_now now sent result
+
+-- the end of a call of next by all that stood there, of which taken was read by its end; where memory ran out the
+-- last text is still to come
+abbrev pub EndOver : TaskPlans → ℕ → List ℕ → List ℕ → ℕ → List ℕ → SessionEnd → Type 0
+EndOver plans i all taken answered sent NoMemory = RunsOut plans i all answered [] sent
+EndOver plans i all taken answered sent end = Served plans i all taken false answered [] sent end
+
+pub record EndServes (plans : TaskPlans) (old now : SessionState)
+    (taken taken_now left left_now written written_now : Option (List ℕ)) (end : SessionEnd) : Type 0 where
+  pub bytes : List ℕ
+  pub taken_more : Appends taken taken_now bytes
+  pub left_less : Consumes left left_now bytes
+  pub sent : List ℕ
+  pub written_more : Appends written written_now sent
+  pub verdict : IfSome left (λ more. EndOver plans old.answered (old.buffer ++ more) (old.buffer ++ bytes) now.answered sent end)
+
+abbrev pub NextServes : TaskPlans → SessionState → SessionState → Option (List ℕ) → Option (List ℕ) → Option (List ℕ) → Option (List ℕ) → Option (List ℕ)
+    → Option (List ℕ) → Next → Type 0
+NextServes plans old now taken taken_now left left_now written written_now (next.Task t) = Unit {0}
+NextServes plans old now taken taken_now left left_now written written_now (next.Ended e) =
+    EndServes plans old now taken taken_now left left_now written written_now e
+
+-- ---- causes
+
+-- a fault is answered only where its count rose, and no other answer raises a count
+abbrev pub EndCause : ℕ → ℕ → ℕ → ℕ → SessionEnd → Type 0
+EndCause reads reads_now writes writes_now ReadFault = Rose reads reads_now × (writes_now ≡ writes)
+EndCause reads reads_now writes writes_now WriteFault = Rose writes writes_now × (reads_now ≡ reads)
+EndCause reads reads_now writes writes_now end = (reads_now ≡ reads) × (writes_now ≡ writes)
+
+abbrev pub StepCause : ℕ → ℕ → ℕ → ℕ → Step → Type 0
+StepCause reads reads_now writes writes_now (step.Ended e) = EndCause reads reads_now writes writes_now e
+StepCause reads reads_now writes writes_now step.Answered = (reads_now ≡ reads) × (writes_now ≡ writes)
+StepCause reads reads_now writes writes_now (step.Task t) = (reads_now ≡ reads) × (writes_now ≡ writes)
+
+abbrev pub NextCause : ℕ → ℕ → ℕ → ℕ → Next → Type 0
+NextCause reads reads_now writes writes_now (next.Ended e) = EndCause reads reads_now writes writes_now e
+NextCause reads reads_now writes writes_now (next.Task t) = (reads_now ≡ reads) × (writes_now ≡ writes)
+
+-- ---- the reply to what is pending
+
+abbrev pub Replies : Pending → Reply → SessionState → SessionState → Option (List ℕ) → Option (List ℕ) → Option SessionEnd → Type 0
+Replies p reply old now written written_now None =
+    Appends written written_now (reply_text reply p.head_only p.close) × IsFalse p.close × (now ≡ record old { answered = old.answered + 1; pending = None })
+Replies p reply old now written written_now (Some Closed) =
+    Appends written written_now (reply_text reply p.head_only p.close) × IsTrue p.close × (now ≡ record old { answered = old.answered + 1; pending = None })
+Replies p reply old now written written_now (Some WriteFault) =
+    AppendsFront written written_now (reply_text reply p.head_only p.close) × (now ≡ record old { pending = None })
+Replies p reply old now written written_now (Some end) = ⊥
+
+abbrev pub ReplyCause : ℕ → ℕ → Option SessionEnd → Type 0
+ReplyCause writes writes_now (Some WriteFault) = Rose writes writes_now
+ReplyCause writes writes_now end = writes_now ≡ writes
+
+-- ---- the whole
+
+-- behind the call the desk stands for lists that begin with the old ones, and what was written is served by the
+-- entries that joined its own
+pub record Serves (plans : TaskPlans) (stands : List Entry → List Entry → Type 0) (first : ℕ) (seen mine : List Entry)
+    (taken taken_now left left_now written written_now : Option (List ℕ)) (answered : ℕ) (end : SessionEnd) : Type 0 where
+  pub others : List Entry
+  pub entries : List Entry
+  pub stood : stands (seen ++ others) (mine ++ entries)
+  pub worn : Bool
+  pub wearing : IsTrue worn → first + length (seen ++ others) ≡ last_number
+  pub bytes : List ℕ
+  pub taken_more : Appends taken taken_now bytes
+  pub left_less : Consumes left left_now bytes
+  pub out : List ℕ
+  pub written_more : Appends written written_now out
+  pub served : IfSome left (λ all. Served plans 0 all bytes worn answered entries out end)
