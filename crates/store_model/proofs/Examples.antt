@@ -31,15 +31,15 @@ use Rattle.resource_schema.specs.Kinds.{notes}
 
 abbrev pub blog : Schema
 blog =
-      record {
-        name = codes "articles";
-        client_ids = false;
-        attributes = record { name = codes "draft"; form = form.Bool; nullable = true; default = None } ∷ record { name = codes "title"; form = form.Text; nullable = false; default = None } ∷ record { name = codes "views"; form = form.Int; nullable = false; default = Some (value.Int (pos 0)) } ∷ [];
-        relationships = record { name = codes "author"; many = false; target = 2 } ∷ record { name = codes "comments"; many = true; target = 1 } ∷ [];
-      }
-      ∷ record { name = codes "comments"; client_ids = false; attributes = record { name = codes "text"; form = form.Text; nullable = false; default = None } ∷ []; relationships = record { name = codes "author"; many = false; target = 2 } ∷ [] }
-      ∷ record { name = codes "people"; client_ids = true; attributes = record { name = codes "name"; form = form.Text; nullable = false; default = None } ∷ []; relationships = [] }
-      ∷ []
+    record {
+      name = codes "articles";
+      client_ids = false;
+      attributes = record { name = codes "draft"; form = form.Bool; nullable = true; default = None } ∷ record { name = codes "title"; form = form.Text; nullable = false; default = None } ∷ record { name = codes "views"; form = form.Int; nullable = false; default = Some (value.Int (pos 0)) } ∷ [];
+      relationships = record { name = codes "author"; many = false; target = 2 } ∷ record { name = codes "comments"; many = true; target = 1 } ∷ [];
+    }
+    ∷ record { name = codes "comments"; client_ids = false; attributes = record { name = codes "text"; form = form.Text; nullable = false; default = None } ∷ []; relationships = record { name = codes "author"; many = false; target = 2 } ∷ [] }
+    ∷ record { name = codes "people"; client_ids = true; attributes = record { name = codes "name"; form = form.Text; nullable = false; default = None } ∷ []; relationships = [] }
+    ∷ []
 
 abbrev comment : List ℕ → Operation
 comment text = Create 1 None None (value.Text text ∷ []) []

@@ -31,7 +31,6 @@ use Rattle.store_model.specs.CellLaws.{row-with_row}
 use Rattle.store_model.proofs.Valid.{next_in_range, valid_with_next, grows_with_row, valid_with_row, counter-with_next}
 use Rattle.store_model.proofs.Links.{AreThere, IsGood, good_empty, good_leads, good_set_links, first_none, when_none, key_kind}
 use Rattle.error_objects.specs.declared.codes.Code.TheVariants as code
-use Rattle.error_objects.specs.declared.refusals.Blame.TheVariants as blame
 use Rattle.store_model.proofs.Basics.{or_left, or_right, key_is, all_zip_set, all_zip_weaker}
 use Rattle.error_objects.specs.Refusals.{refusal}
 

@@ -1,10 +1,10 @@
 -- The store's tasks keep what every subject keeps: among it, that a fit task keeps a valid world valid.
 use Rattle.std.proofs.Common.{◌≡◌, ℕ, ◌+◌, ◌<◌, ◌≤◌, List, [], ◌∷◌, Bool, true, false, refl, sym, ap, subst, ◌∙◌, Some, None, Option, arith, inl, inr, zero, suc}
-use Rattle.std.specs.Prelude.{⊤, ◌⊎◌, ◌&&◌, not, cond, length, map, get_or, is_some, Result, Ok, Err, codes}
+use Rattle.std.specs.Prelude.{⊤, ◌⊎◌, ◌&&◌, not, cond, length, map, get_or, is_some, Result, Ok, Err}
 use Rattle.std.specs.Option.{option_map_or, option_and_then}
 use Rattle.std.specs.Ordering.{is_eq}
-use Rattle.std.specs.List.{AllByRecursion, list_any, range_with_len, zip}
-use Rattle.std.specs.FinMap.Entries.{find, find-where_key, is_sorted-where_key}
+use Rattle.std.specs.List.{AllByRecursion, list_any, range_with_len}
+use Rattle.std.specs.FinMap.Entries.{find-where_key, is_sorted-where_key}
 use Rattle.ident_rules.specs.declared.key.Key.{Key}
 use Rattle.resource_schema.specs.declared.schema.Schema.{Schema}
 use Rattle.world_cells.specs.declared.rows.Row.{Row}
@@ -35,17 +35,9 @@ use Rattle.store_model.specs.StoreMeaning.{meaning_of}
 use Rattle.store_model.proofs.Links.{first_none, when_none}
 use Rattle.store_model.proofs.Keeps.{create_keeps, update_keeps}
 use Rattle.store_model.proofs.LinkChanges.{set_keeps, add_keeps, drop_keeps}
-use Rattle.store_model.proofs.Basics.{and_true, key_is, passes}
+use Rattle.store_model.proofs.Basics.{find_in, and_true, key_is, passes}
 
 -- ---- a row that is taken away
-
-find_in : (k : Key) (es : List (Key × Row)) (row : Row) → find key_cmp k es ≡ Some row → (at : Key) × IsIn es (at, row) × (k ≡ at)
-find_in k [] row e = cc
-find_in k (x ∷ es) row e =
-    elim (same_key k x.0) as (λ b. same_key k x.0 ≡ b → cond b (Some x.1) (find key_cmp k es) ≡ Some row → (at : Key) × IsIn (x ∷ es) (at, row) × (k ≡ at)) [
-      | true ↦ λ same e. (x.0, inl (λ i. (x.0, option_map_or (λ r. r) (e i) row)), key_is k x.0 same)
-      | false ↦ λ apart e. let later = find_in k es row e in (later.0, inr later.1, later.2)
-    ] refl e
 
 in_range : (n a i : ℕ) → i < n → IsIn (range_with_len a n) (a + i)
 in_range zero a i h = let no : ⊥ = omega arith in absurd no

@@ -1,11 +1,15 @@
 mod Basics
 pub mod Examples
 mod FitRows
+mod FullLinkage
 mod Keeps
 mod Lawful
 mod LinkChanges
 mod Links
+mod Paging
 mod Reaching
 mod Rows
+mod Runs
 mod Sources
 mod Valid
+mod WorldRows

@@ -1,6 +1,6 @@
 -- Links that an operation writes are links of their relationships, to rows that are there.
-use Rattle.std.proofs.Common.{◌≡◌, ℕ, ◌≤◌, List, [], ◌∷◌, ◌++◌, Bool, true, false, refl, sym, ap, subst, ◌∙◌, Some, None, Option, arith, inl, inr, zero, suc}
-use Rattle.std.specs.Prelude.{IsTrue, cond, ◌||◌, ◌⊎◌, not, if◌then◌else◌, nat_lt, length, map, slice_get, slice_set, get_or, option_map, IfSome}
+use Rattle.std.proofs.Common.{◌≡◌, ℕ, ◌≤◌, List, [], ◌∷◌, ◌++◌, Bool, true, false, refl, sym, ap, subst, ◌∙◌, Some, None, Option, arith, inl, inr}
+use Rattle.std.specs.Prelude.{IsTrue, cond, not, if◌then◌else◌, nat_lt, length, map, slice_get, slice_set, get_or, option_map, IfSome}
 use Rattle.std.specs.Option.{option_map_or}
 use Rattle.std.specs.Ordering.{is_eq, ordering_reverse}
 use Rattle.std.specs.declared.cmp.Ordering.{Ordering}

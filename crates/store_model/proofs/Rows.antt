@@ -1,6 +1,6 @@
 -- More computed examples: including, relationships, loops, pages, lists, refusals and reach.
 use Rattle.std.specs.Prelude.{◌≡◌, ℕ, Bool, List, [], ◌∷◌, true, false, Some, None, codes, map, pos, decimal}
-use Rattle.std.proofs.Common.{refl, arith}
+use Rattle.std.proofs.Common.{refl}
 use Rattle.std.specs.Fmt.{digits}
 use Rattle.std.specs.List.{range_with_len}
 use Rattle.ident_rules.specs.declared.key.Key.{Key}

@@ -1,6 +1,6 @@
 -- Each refusal of an operation blames what its code asks for, where the operation's target is named as its request does: by the path, or in a list by the operation itself.
 use Rattle.std.proofs.Common.{◌≡◌, ℕ, List, [], ◌∷◌, ◌++◌, Bool, true, false, refl, subst, Some, None, Option}
-use Rattle.std.specs.Prelude.{◌||◌, ◌&&◌, ◌==◌, not, nat_lt, map, length, is_some, is_none, IfSome, codes, ⊤}
+use Rattle.std.specs.Prelude.{◌||◌, ◌&&◌, ◌==◌, not, nat_lt, map, length, is_some, is_none, IfSome, codes}
 use Rattle.std.specs.Option.{option_map_or}
 use Rattle.std.specs.List.{AllByRecursion}
 use Rattle.ident_rules.specs.declared.key.Key.{Key}
@@ -13,7 +13,6 @@ use Rattle.task_forms.specs.declared.operations.Member.{Member}
 use Rattle.task_forms.specs.declared.operations.Operation.{Operation}
 use Rattle.task_forms.specs.declared.operations.Operation.TheVariants.{Create, Update, Remove, SetLinks, AddLinks, DropLinks}
 use Rattle.error_objects.specs.declared.codes.Code.TheVariants as code
-use Rattle.error_objects.specs.declared.refusals.Blame.TheVariants as blame
 use Rattle.error_objects.specs.declared.refusals.Refusal.{Refusal}
 use Rattle.ident_rules.specs.Key.{same_key}
 use Rattle.world_cells.specs.World.{World, has_row, next_id, ids_of, link_at}

@@ -1,5 +1,5 @@
 -- A change of one row or one next id keeps a world valid.
-use Rattle.std.proofs.Common.{◌≡◌, ℕ, ◌<◌, ◌≤◌, true, false, refl, sym, ap, subst, ◌∙◌, Some, None, arith}
+use Rattle.std.proofs.Common.{◌≡◌, ℕ, ◌<◌, ◌≤◌, true, false, refl, sym, subst, ◌∙◌, Some, None, arith}
 use Rattle.std.specs.Prelude.{cond, IsTrue, is_some, unwrap_or, length}
 use Rattle.std.specs.Ordering.{nat_cmp, eq_by_cmp}
 use Rattle.std.specs.Cmp.{nat_cmp_total}

@@ -1,5 +1,5 @@
 -- The cells of a world after a change of one row or one next id.
-use Rattle.std.specs.Prelude.{◌≡◌, ℕ, Bool, true, false, cond, if◌then◌else◌, option_map, Some, None, Option, refl}
+use Rattle.std.specs.Prelude.{◌≡◌, ℕ, true, false, cond, if◌then◌else◌, option_map, Some, None, Option, refl}
 use Rattle.std.proofs.Common.{sym, ap, ◌∙◌}
 use Rattle.std.specs.Option.{option_map_or}
 use Rattle.std.specs.declared.cmp.Ordering.{Ordering}

@@ -2,7 +2,7 @@
 use Rattle.std.specs.Prelude.{ℕ, ◌+◌, ◌||◌, ◌&&◌, ◌==◌, not, Bool, true, false, if◌then◌else◌, nat_lt, List, [], ◌∷◌, ◌++◌, map, length, is_some, is_none, Some, None, Option, Result, Ok, Err, slice_get, slice_set, get_or, decimal, option_map, codes}
 use Rattle.std.specs.Option.{option_map_or, option_and_then}
 use Rattle.std.specs.List.{list_any, filter, filter_map, range_with_len}
-use Rattle.std.specs.Ordering.{nat_cmp, then_cmp, on, eq_by_cmp}
+use Rattle.std.specs.Ordering.{nat_cmp, then_cmp, on}
 use Rattle.std.specs.declared.cmp.Ordering.{Ordering}
 use Rattle.std.specs.Cmp.Lexicographic.{slice_cmp}
 use Rattle.std.specs.FinMap.Entries.{find, put, where_key}
@@ -28,7 +28,6 @@ use Rattle.error_objects.specs.declared.refusals.Blame.TheVariants as blame
 use Rattle.error_objects.specs.declared.refusals.Refusal.{Refusal}
 use Rattle.error_objects.specs.Refusals.{refusal, at_pointer}
 use Rattle.task_forms.specs.Fit.{kind_of}
-use Rattle.ident_rules.specs.IdOrder.{id_cmp}
 use Rattle.ident_rules.specs.Key.{key_cmp, same_key}
 use Rattle.world_cells.specs.World.{World, row_at, has_row, next_id, ids_of, no_link, link_at, links_to}
 use Rattle.store_model.specs.Valid.{last_next, link_limit, same_id}

@@ -1,5 +1,5 @@
 -- Resource objects, identifiers and linkage as JSON (JSON:API 1.1, "Resource Objects"). Members stand in byte order.
-use Rattle.std.specs.Prelude.{ℕ, Bool, true, false, ◌==◌, ◌++◌, if◌then◌else◌, List, [], ◌∷◌, map, Some, None, codes}
+use Rattle.std.specs.Prelude.{ℕ, Bool, true, ◌==◌, ◌++◌, List, [], ◌∷◌, map, Some, None, codes}
 use Rattle.std.specs.Option.{option_map_or}
 use Rattle.std.specs.List.{list_any, filter, zip}
 use Rattle.std.specs.Map.{lookup}

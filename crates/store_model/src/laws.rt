@@ -1,11 +1,68 @@
-ghost use Rattle.std.specs.Prelude.{List};
+ghost use Rattle.std.specs.Prelude.{◌≡◌, List, ℕ, Bool, Result, Err, IfSome};
+ghost use Rattle.std.specs.List.{AllByRecursion};
+ghost use Rattle.ident_rules.specs.declared.key.Key.{Key};
 ghost use Rattle.resource_schema.specs.declared.kinds.Kind.{Kind};
+ghost use Rattle.world_cells.specs.World.{World, linked};
+ghost use Rattle.world_cells.specs.declared.rows.Row.{Row};
+ghost use Rattle.error_objects.specs.Refusals.{IsSourced};
+ghost use Rattle.error_objects.specs.declared.refusals.Refusal.{Refusal};
 ghost use Rattle.task_forms.specs.Meaning.{IsLawful};
+ghost use Rattle.task_forms.specs.declared.operations.Operation.{Operation};
+ghost use Rattle.task_forms.specs.declared.queries.Page.{Page};
+ghost use Rattle.task_forms.specs.declared.queries.Path.{Path};
+ghost use Rattle.task_forms.specs.declared.queries.SortKey.{SortKey};
+ghost use Rattle.task_forms.specs.declared.tasks.Fetch.{Fetch};
+ghost use Rattle.task_forms.specs.declared.tasks.ReplyForm.{ReplyForm};
+ghost use Rattle.store_model.specs.Valid.{IsValid};
+ghost use Rattle.store_model.specs.Run.{run};
+ghost use Rattle.store_model.specs.Pages.{page_of, rows_of, rows_at};
+ghost use Rattle.store_model.specs.Included.{included};
+ghost use Rattle.store_model.specs.Document.{document, primary_rows, included_rows};
 ghost use Rattle.store_model.specs.StoreMeaning.{meaning_of};
+ghost use Rattle.store_model.specs.Laws.{AreApart, AreIncluded, AreRowsAt, AreRowsOf, HasOneCursor, IsAllOrNothing, IsPage, IsFullyLinked, IsPlaced, ShowsResources, ShowsRows, is_list};
 
 /// The store's tasks keep what every meaning of tasks keeps: the empty world is valid and has no cell, a fit task leads
 /// from a valid world to a valid one, and a fetch and a reply of status 400 or above change nothing.
 pub fn store_is_lawful()
     ensures { (schema : List Kind) → IsLawful (meaning_of schema) }
-{
-}
+{}
+
+/// A list of operations is done as a whole, or its first refused operation is told and the world stays (Atomic Operations
+/// extension, "Processing").
+pub fn lists_are_all_or_nothing()
+    ensures { (schema : List Kind) (w : World) (operations : List Operation) (form : ReplyForm) → IsAllOrNothing schema w operations form (run schema form w operations) }
+{}
+
+/// A refused change blames what the code of its refusal asks for (JSON:API 1.1, "Error Objects"), where the operations
+/// are those of a plain request or of a list, as the form of the reply says.
+pub fn refusals_are_sourced()
+    ensures { (schema : List Kind) (form : ReplyForm) (w : World) (operations : List Operation) (r : Refusal) → AllByRecursion (IsPlaced (is_list form)) operations → run schema form w operations ≡ Err r → IsSourced (is_list form) r }
+{}
+
+/// What is computed as included is exactly what the paths reach from the primaries, less the primaries, each row once
+/// and in the order of the keys (JSON:API 1.1, "Inclusion of Related Resources").
+pub fn included_is_reached()
+    ensures { (schema : List Kind) (w : World) (primaries : List Key) (paths : List Path) → IsValid schema w → AreIncluded schema w primaries paths (included schema w primaries paths) }
+{}
+
+/// The rows of a type and the rows at some keys are those of the world.
+pub fn rows_are_the_worlds()
+    ensures of_type { (schema : List Kind) (w : World) (kind : ℕ) → IsValid schema w → AreRowsOf w kind (rows_of w kind) }
+    ensures at_keys { (schema : List Kind) (w : World) (keys : List Key) → IsValid schema w → AreRowsAt w keys (rows_at w keys) }
+{}
+
+/// A page is in order, at most as long as was asked, has nothing that was not asked for and leaves nothing out while it
+/// has room, and says whether a row stands before it and behind it: of any rows that their ids tell apart, of a
+/// collection, and of what a relationship leads to (Cursor Pagination profile).
+pub fn pages_are_exact()
+    ensures rows { (sort : List SortKey) (page : Page) (rows : List Row) → AreApart rows → HasOneCursor page → IsPage sort page rows (page_of sort page rows) }
+    ensures collections { (schema : List Kind) (w : World) (kind : ℕ) (sort : List SortKey) (page : Page) → IsValid schema w → HasOneCursor page → IsPage sort page (rows_of w kind) (page_of sort page (rows_of w kind)) }
+    ensures relationships { (schema : List Kind) (w : World) (row : Row) (rel : ℕ) (sort : List SortKey) (page : Page) → IsValid schema w → HasOneCursor page → IsPage sort page (rows_at w (linked schema row rel)) (page_of sort page (rows_at w (linked schema row rel))) }
+{}
+
+/// A document shows each resource once, all of them rows of one world, and each that is included is reached from a primary
+/// by links between resources that it shows ("Compound Documents"); its resource objects are those of these rows.
+pub fn documents_are_fully_linked()
+    ensures linked { (schema : List Kind) (w : World) (fetch : Fetch) → IsValid schema w → HasOneCursor fetch.query.page → IsFullyLinked schema w (primary_rows schema w fetch.query fetch.target) (included_rows schema w fetch) }
+    ensures shown { (schema : List Kind) (w : World) (fetch : Fetch) → ShowsResources fetch.target → IfSome (document schema w fetch) (ShowsRows schema fetch.query (primary_rows schema w fetch.query fetch.target) (included_rows schema w fetch)) }
+{}

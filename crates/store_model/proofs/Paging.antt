@@ -1,0 +1,319 @@
+-- A computed page is one page of its rows, and rows of a type and rows at keys are those of the world.
+use Rattle.std.proofs.Common.{◌≡◌, ℕ, ◌-◌, ◌≤◌, List, [], ◌∷◌, true, false, length, take, drop, refl, sym, ap, subst, ◌∙◌, Some, None, Option, inl, inr, zero, suc, arith}
+use Rattle.std.specs.Prelude.{T, ◌⊎◌, ◌↔◌, IsTrue, MatchOption, is_some, map, option_map}
+use Rattle.std.specs.Option.{option_map_or}
+use Rattle.std.specs.declared.cmp.Ordering.{Ordering}
+use Rattle.std.specs.declared.cmp.Ordering.TheVariants.{Less, Equal, Greater}
+use Rattle.std.specs.Ordering.{is_lt}
+use Rattle.std.specs.List.{AllByRecursion, list_any, last_or}
+use Rattle.std.specs.FinMap.Entries.{by_order, put, is_sorted, is_sorted-put, is_sorted-where_key}
+use Rattle.std.proofs.lemmas.List.{take-append-drop, length-take-le, length-drop, length-map}
+use Rattle.ident_rules.specs.IdOrder.{id_cmp-IsAntisymmetric, second_equal}
+use Rattle.resource_schema.specs.declared.values.Place.{Place}
+use Rattle.world_cells.specs.declared.rows.Row.{Row}
+use Rattle.world_cells.specs.Lists.{IsIn}
+use Rattle.task_forms.specs.declared.queries.Page.{Page}
+use Rattle.task_forms.specs.declared.queries.SortKey.{SortKey}
+use Rattle.store_model.specs.Pages.{values_cmp, place_cmp, place_cmp_total, place_of, by_place, last_items, first_item, last_item, behind, before, slice_between, slice_of, any_before, any_after, page_of}
+use Rattle.store_model.specs.Laws.{AreApart, IsBefore, IsBetween, HasNoRoom, HasEarlier, HasLater, HasOneCursor, IsPage}
+use Rattle.store_model.proofs.Basics.{same_Some, one_passes, passes, in_left, in_right, in_append, in_map, from_map, in_filter, from_filter, all_in, in_all, pairwise_values, sorted_split}
+
+-- ---- one entry more
+
+module _ {K X : Type 0} (R : K → K → Ordering) where
+  -- an entry after one is put: the new one, one of the old, or an old key with the new value
+  abbrev FromPut : K → X → List (K × X) → K × X → Type 0
+  FromPut k v es e = (e ≡ (k, v)) ⊎ (IsIn es e ⊎ ((old : K × X) × IsIn es old × (R k old.0 ≡ Equal) × (e ≡ (old.0, v))))
+
+  from_put : (k : K) (v : X) (es : List (K × X)) (e : K × X) → IsIn (put R k v es) e → FromPut k v es e
+  from_put k v [] e (inl is) = inl (sym is)
+  from_put k v [] e (inr among) = elim among [ ]
+  from_put k v (d ∷ es) e among =
+      elim (R k d.0) as (λ o. R k d.0 ≡ o → IsIn (by_order o ((k, v) ∷ d ∷ es) ((d.0, v) ∷ es) (d ∷ put R k v es)) e → FromPut k v (d ∷ es) e) [
+        | Less ↦ λ p among. elim among [ inl is ↦ inl (sym is) | inr later ↦ inr (inl later) ]
+        | Equal ↦ λ p among. elim among [ inl is ↦ inr (inr (d, inl refl, p, sym is)) | inr later ↦ inr (inl (inr later)) ]
+        | Greater ↦ λ p among. elim among [
+          | inl is ↦ inr (inl (inl is))
+          | inr later ↦ elim (from_put k v es e later) [
+            | inl new ↦ inl new
+            | inr more ↦ elim more [
+              | inl old ↦ inr (inl (inr old))
+              | inr tied ↦ inr (inr (tied.0, inr tied.1, tied.2, tied.3))
+            ]
+          ]
+        ]
+      ] refl among
+
+  -- the new value is there, at its key or at one that ties
+  put_new : (k : K) (v : X) (es : List (K × X)) → (at : K) × IsIn (put R k v es) (at, v)
+  put_new k v [] = (k, inl refl)
+  put_new k v (d ∷ es) =
+      elim (R k d.0) as (λ o. (at : K) × IsIn (by_order o ((k, v) ∷ d ∷ es) ((d.0, v) ∷ es) (d ∷ put R k v es)) (at, v)) [
+        | Less ↦ (k, inl refl)
+        | Equal ↦ (d.0, inl refl)
+        | Greater ↦ let rest = put_new k v es in (rest.0, inr rest.1)
+      ]
+
+  -- an old entry is there, or its key ties with the new one
+  put_old : (k : K) (v : X) (es : List (K × X)) (e : K × X) → IsIn es e → IsIn (put R k v es) e ⊎ (R k e.0 ≡ Equal)
+  put_old k v [] e among = elim among [ ]
+  put_old k v (d ∷ es) e among =
+      elim (R k d.0) as (λ o. R k d.0 ≡ o → IsIn (by_order o ((k, v) ∷ d ∷ es) ((d.0, v) ∷ es) (d ∷ put R k v es)) e ⊎ (R k e.0 ≡ Equal)) [
+        | Less ↦ λ p. inl (inr among)
+        | Equal ↦ λ p. elim among [ inl is ↦ inr (ap (λ (c : K × X). R k c.0) (sym is) ∙ p) | inr later ↦ inl (inr later) ]
+        | Greater ↦ λ p. elim among [
+          | inl is ↦ inl (inl is)
+          | inr later ↦ elim (put_old k v es e later) [ inl there ↦ inl (inr there) | inr tied ↦ inr tied ]
+        ]
+      ] refl
+
+-- ---- rows by their places
+
+-- rows whose places tie have one id
+same_place : (sort : List SortKey) (a b : Row) → place_cmp sort (place_of sort a) (place_of sort b) ≡ Equal → a.key.id ≡ b.key.id
+same_place sort a b e = id_cmp-IsAntisymmetric a.key.id b.key.id (second_equal (values_cmp sort ((place_of sort a).values) ((place_of sort b).values)) _ e)
+
+module _ (sort : List SortKey) where
+  by_place_sorted : (rows : List Row) → T (is_sorted (place_cmp sort) (by_place sort rows))
+  by_place_sorted [] = tt
+  by_place_sorted (row ∷ rows) = is_sorted-put (place_cmp sort) (place_cmp_total sort) (place_of sort row) row (by_place sort rows) (by_place_sorted rows)
+
+  -- an entry is one of the rows, at its place
+  abbrev IsPlaced : List Row → Place × Row → Type 0
+  IsPlaced rows e = (e.0 ≡ place_of sort e.1) × IsIn rows e.1
+
+  tail_apart : (row : Row) (rows : List Row) → AreApart (row ∷ rows) → AreApart rows
+  tail_apart row rows apart a b p q = apart a b (inr p) (inr q)
+
+  from_place : (rows : List Row) (e : Place × Row) → AreApart rows → IsIn (by_place sort rows) e → IsPlaced rows e
+  from_place [] e apart among = elim among [ ]
+  from_place (row ∷ rows) e apart among = elim (from_put (place_cmp sort) (place_of sort row) row (by_place sort rows) e among) [
+    | inl new ↦ subst (λ (c : Place × Row). IsPlaced (row ∷ rows) c) (sym new) (refl, inl refl)
+    | inr more ↦ elim more [
+      | inl old ↦ let rest = from_place rows e (tail_apart row rows apart) old in (rest.0, inr rest.1)
+      | inr tied ↦
+          let rest = from_place rows tied.0 (tail_apart row rows apart) tied.1 in
+          let ties : place_cmp sort (place_of sort row) (place_of sort tied.0.1) ≡ Equal = ap (place_cmp sort (place_of sort row)) (sym rest.0) ∙ tied.2 in
+          let same : row ≡ tied.0.1 = apart row tied.0.1 (inl refl) (inr rest.1) (same_place sort row tied.0.1 ties) in
+          subst (λ (c : Place × Row). IsPlaced (row ∷ rows) c) (sym tied.3) (rest.0 ∙ ap (place_of sort) (sym same), inl refl)
+    ]
+  ]
+
+  new_place : (row : Row) (rows : List Row) → AreApart (row ∷ rows) → IsIn (by_place sort (row ∷ rows)) (place_of sort row, row)
+  new_place row rows apart =
+      let one = put_new (place_cmp sort) (place_of sort row) row (by_place sort rows) in
+      let at : one.0 ≡ place_of sort row = (from_place (row ∷ rows) (one.0, row) apart one.1).0 in
+      subst (λ (p : Place). IsIn (by_place sort (row ∷ rows)) (p, row)) at one.1
+
+  in_place : (rows : List Row) (row : Row) → AreApart rows → IsIn rows row → IsIn (by_place sort rows) (place_of sort row, row)
+  in_place [] row apart among = elim among [ ]
+  in_place (first ∷ rows) row apart (inl is) = subst (λ (r : Row). IsIn (by_place sort (first ∷ rows)) (place_of sort r, r)) is (new_place first rows apart)
+  in_place (first ∷ rows) row apart (inr among) =
+      elim (put_old (place_cmp sort) (place_of sort first) first (by_place sort rows) (place_of sort row, row) (in_place rows row (tail_apart first rows apart) among)) [
+        | inl there ↦ there
+        | inr tied ↦
+            let same : first ≡ row = apart first row (inl refl) (inr among) (same_place sort first row tied) in
+            subst (λ (r : Row). IsIn (by_place sort (first ∷ rows)) (place_of sort r, r)) same (new_place first rows apart)
+      ]
+
+  -- ---- one slice
+
+  -- a slice of all entries, in the words of the law
+  record IsSlice (size : ℕ) (low high : Option Place) (all items : List (Place × Row)) : Type 0 where
+    in_order : T (is_sorted (place_cmp sort) items)
+    short : length items ≤ size
+    asked : (e : Place × Row) → IsIn items e → IsIn all e × IsBetween sort low high e.0
+    whole : (e : Place × Row) → IsIn all e → IsBetween sort low high e.0 → IsIn items e ⊎ ((length items ≡ size) × MatchOption high (AllByRecursion (λ (d : Place × Row). is_lt (place_cmp sort d.0 e.0) ≡ true) items) (λ cursor. AllByRecursion (λ (d : Place × Row). is_lt (place_cmp sort e.0 d.0) ≡ true) items))
+
+  some_there : {A : Type 0} (xs : List A) (x : A) → IsIn xs x → 1 ≤ length xs
+  some_there [] x among = elim among [ ]
+  some_there (y ∷ xs) x among = omega arith
+
+  -- what does not stand in the first n stands behind each of them, and they are n
+  first_of_all : (n : ℕ) (all : List (Place × Row)) (e : Place × Row) → T (is_sorted (place_cmp sort) all) → IsIn all e
+      → IsIn (take n all) e ⊎ ((length (take n all) ≡ n) × AllByRecursion (λ (d : Place × Row). is_lt (place_cmp sort d.0 e.0) ≡ true) (take n all))
+  first_of_all n all e h among =
+      let cut = take-append-drop n all in
+      elim (in_append (take n all) (drop n all) e (subst (λ (es : List (Place × Row)). IsIn es e) (sym cut) among)) [
+        | inl here ↦ inl here
+        | inr later ↦
+            let split = sorted_split (place_cmp sort) (take n all) (drop n all) (subst (λ (es : List (Place × Row)). T (is_sorted (place_cmp sort) es)) (sym cut) h) in
+            let some : 1 ≤ length all - n = subst (λ i. 1 ≤ i) (length-drop n all) (some_there (drop n all) e later) in
+            let fits : n ≤ length all = omega arith in
+            inr (length-take-le n all fits, all_in (λ (d : Place × Row). is_lt (place_cmp sort d.0 e.0) ≡ true) (take n all) (λ d p. split.2 d e p later))
+      ]
+
+  -- what does not stand in the last n stands before each of them, and they are n
+  last_of_all : (n : ℕ) (all : List (Place × Row)) (e : Place × Row) → T (is_sorted (place_cmp sort) all) → IsIn all e
+      → IsIn (last_items n all) e ⊎ ((length (last_items n all) ≡ n) × AllByRecursion (λ (d : Place × Row). is_lt (place_cmp sort e.0 d.0) ≡ true) (last_items n all))
+  last_of_all n all e h among =
+      let k = length all - n in
+      let cut = take-append-drop (length all - n) all in
+      elim (in_append (take (length all - n) all) (drop (length all - n) all) e (subst (λ (es : List (Place × Row)). IsIn es e) (sym cut) among)) [
+        | inr here ↦ inl here
+        | inl earlier ↦
+            let split = sorted_split (place_cmp sort) (take (length all - n) all) (drop (length all - n) all) (subst (λ (es : List (Place × Row)). T (is_sorted (place_cmp sort) es)) (sym cut) h) in
+            let lower : length all - n ≤ length all = omega arith in
+            let some : 1 ≤ length all - n = subst (λ i. 1 ≤ i) (length-take-le (length all - n) all lower) (some_there (take (length all - n) all) e earlier) in
+            let left : length all - (length all - n) ≡ n = omega arith in
+            inr (length-drop (length all - n) all ∙ left, all_in (λ (d : Place × Row). is_lt (place_cmp sort e.0 d.0) ≡ true) (drop (length all - n) all) (λ d p. split.2 e d earlier p))
+      ]
+
+  from_take : {A : Type 0} (n : ℕ) (xs : List A) (x : A) → IsIn (take n xs) x → IsIn xs x
+  from_take n xs x among = subst (λ ys. IsIn ys x) (take-append-drop n xs) (in_left (take n xs) (drop n xs) x among)
+
+  from_drop : {A : Type 0} (n : ℕ) (xs : List A) (x : A) → IsIn (drop n xs) x → IsIn xs x
+  from_drop n xs x among = subst (λ ys. IsIn ys x) (take-append-drop n xs) (in_right (take n xs) (drop n xs) x among)
+
+  take_sorted : (n : ℕ) (all : List (Place × Row)) → T (is_sorted (place_cmp sort) all) → T (is_sorted (place_cmp sort) (take n all))
+  take_sorted n all h = (sorted_split (place_cmp sort) (take n all) (drop n all) (subst (λ (es : List (Place × Row)). T (is_sorted (place_cmp sort) es)) (sym (take-append-drop n all)) h)).0
+
+  drop_sorted : (n : ℕ) (all : List (Place × Row)) → T (is_sorted (place_cmp sort) all) → T (is_sorted (place_cmp sort) (drop n all))
+  drop_sorted n all h = (sorted_split (place_cmp sort) (take n all) (drop n all) (subst (λ (es : List (Place × Row)). T (is_sorted (place_cmp sort) es)) (sym (take-append-drop n all)) h)).1
+
+  take_short : {A : Type 0} (n : ℕ) (xs : List A) → length (take n xs) ≤ n
+  take_short zero xs = omega arith
+  take_short (suc n) [] = omega arith
+  take_short (suc n) (x ∷ xs) = let rest = take_short n xs in omega arith
+
+  last_short : {A : Type 0} (n : ℕ) (xs : List A) → length (last_items n xs) ≤ n
+  last_short n xs = let left : length xs - (length xs - n) ≤ n = omega arith in subst (λ i. i ≤ n) (sym (length-drop (length xs - n) xs)) left
+
+  slice_is : (size : ℕ) (low high : Option Place) (all : List (Place × Row)) → (IsTrue (is_some low) → high ≡ None) → T (is_sorted (place_cmp sort) all) → IsSlice size low high all (slice_between sort size low high all)
+  slice_is size (Some cursor) (Some other) all one h = cc (one refl)
+  slice_is size (Some cursor) None all one h =
+      let passing = behind sort cursor all in
+      let sorted = is_sorted-where_key (place_cmp sort) (λ p. is_lt (place_cmp sort cursor p)) all h in
+      record {
+        in_order = take_sorted size passing sorted;
+        short = take_short size passing;
+        asked = λ e among. let found = from_filter (λ (e : Place × Row). is_lt (place_cmp sort cursor e.0)) all e (from_take size (behind sort cursor all) e among) in (found.0, (found.1, tt));
+        whole = λ e among asked. first_of_all size (behind sort cursor all) e sorted (in_filter (λ (e : Place × Row). is_lt (place_cmp sort cursor e.0)) all e among asked.0);
+      }
+  slice_is size None (Some cursor) all one h =
+      let passing = before sort cursor all in
+      let sorted = is_sorted-where_key (place_cmp sort) (λ p. is_lt (place_cmp sort p cursor)) all h in
+      record {
+        in_order = drop_sorted (length passing - size) passing sorted;
+        short = last_short size passing;
+        asked = λ e among. let found = from_filter (λ (e : Place × Row). is_lt (place_cmp sort e.0 cursor)) all e (from_drop (length (before sort cursor all) - size) (before sort cursor all) e among) in (found.0, (tt, found.1));
+        whole = λ e among asked. last_of_all size (before sort cursor all) e sorted (in_filter (λ (e : Place × Row). is_lt (place_cmp sort e.0 cursor)) all e among asked.1);
+      }
+  slice_is size None None all one h = record {
+    in_order = take_sorted size all h;
+    short = take_short size all;
+    asked = λ e among. (from_take size all e among, (tt, tt));
+    whole = λ e among asked. first_of_all size all e h among;
+  }
+
+  -- ---- what stands before and behind
+
+  -- an item that is last is an item
+  last_among : {A : Type 0} (o : Option A) (xs : List A) (x : A) → last_or o xs ≡ Some x → (o ≡ Some x) ⊎ IsIn xs x
+  last_among o [] x e = inl e
+  last_among o (y ∷ xs) x e = elim (last_among (Some y) xs x e) [ inl is ↦ inr (inl (same_Some y x is)) | inr later ↦ inr (inr later) ]
+
+  last_map : {A B : Type 0} (f : A → B) (o : Option A) (xs : List A) → last_or (option_map f o) (map f xs) ≡ option_map f (last_or o xs)
+  last_map f o [] = refl
+  last_map f o (x ∷ xs) = last_map f (Some x) xs
+
+  first_map : {A B : Type 0} (f : A → B) (xs : List A) → first_item (map f xs) ≡ option_map f (first_item xs)
+  first_map f [] = refl
+  first_map f (x ∷ xs) = refl
+
+  module _ (rows : List Row) (apart : AreApart rows) where
+    abbrev everyone : List (Place × Row)
+    everyone = by_place sort rows
+
+    -- an entry at its place
+    placed : (e : Place × Row) → IsIn everyone e → e.0 ≡ place_of sort e.1
+    placed e among = (from_place rows e apart among).0
+
+    -- some entry stands before, or behind, an entry: so does some row its row
+    earlier_row : (e : Place × Row) → IsIn everyone e → list_any (λ (other : Place × Row). is_lt (place_cmp sort other.0 e.0)) everyone ≡ true → (row : Row) × IsIn rows row × IsBefore sort row e.1
+    earlier_row e among any =
+        let one = one_passes (λ (other : Place × Row). is_lt (place_cmp sort other.0 e.0)) everyone any in
+        let from = from_place rows one.0 apart one.1 in
+        (one.0.1, from.1, subst (λ (p : Place). is_lt (place_cmp sort p (place_of sort e.1)) ≡ true) from.0 (subst (λ (p : Place). is_lt (place_cmp sort one.0.0 p) ≡ true) (placed e among) one.2))
+
+    earlier_any : (e : Place × Row) → IsIn everyone e → (row : Row) → IsIn rows row → IsBefore sort row e.1 → list_any (λ (other : Place × Row). is_lt (place_cmp sort other.0 e.0)) everyone ≡ true
+    earlier_any e among row here less = passes (λ (other : Place × Row). is_lt (place_cmp sort other.0 e.0)) everyone (place_of sort row, row) (in_place rows row apart here)
+        (subst (λ (p : Place). is_lt (place_cmp sort (place_of sort row) p) ≡ true) (sym (placed e among)) less)
+
+    later_row : (e : Place × Row) → IsIn everyone e → list_any (λ (other : Place × Row). is_lt (place_cmp sort e.0 other.0)) everyone ≡ true → (row : Row) × IsIn rows row × IsBefore sort e.1 row
+    later_row e among any =
+        let one = one_passes (λ (other : Place × Row). is_lt (place_cmp sort e.0 other.0)) everyone any in
+        let from = from_place rows one.0 apart one.1 in
+        (one.0.1, from.1, subst (λ (p : Place). is_lt (place_cmp sort (place_of sort e.1) p) ≡ true) from.0 (subst (λ (p : Place). is_lt (place_cmp sort p one.0.0) ≡ true) (placed e among) one.2))
+
+    later_any : (e : Place × Row) → IsIn everyone e → (row : Row) → IsIn rows row → IsBefore sort e.1 row → list_any (λ (other : Place × Row). is_lt (place_cmp sort e.0 other.0)) everyone ≡ true
+    later_any e among row here less = passes (λ (other : Place × Row). is_lt (place_cmp sort e.0 other.0)) everyone (place_of sort row, row) (in_place rows row apart here)
+        (subst (λ (p : Place). is_lt (place_cmp sort p (place_of sort row)) ≡ true) (sym (placed e among)) less)
+
+    earlier_is : (items : List (Place × Row)) → ((e : Place × Row) → IsIn items e → IsIn everyone e) → IsTrue (any_before sort items everyone) ↔ HasEarlier sort rows (map (λ (e : Place × Row). e.1) items)
+    earlier_is [] within = (λ e. cc e, λ has. cc has.is_first)
+    earlier_is (e ∷ items) within = (
+      λ any. let one = earlier_row e (within e (inl refl)) any in record { first = e.1; is_first = refl; row = one.0; among = one.1; earlier = one.2 },
+      λ has. earlier_any e (within e (inl refl)) has.row has.among (subst (λ (r : Row). IsBefore sort has.row r) (sym (same_Some e.1 has.first has.is_first)) has.earlier),
+    )
+
+    -- by the last item, if there is one
+    later_by : (items : List (Place × Row)) (o : Option (Place × Row)) → ((e : Place × Row) → o ≡ Some e → IsIn everyone e) → last_item (map (λ (e : Place × Row). e.1) items) ≡ option_map (λ (e : Place × Row). e.1) o
+        → IsTrue (option_map_or (λ (e : Place × Row). list_any (λ (other : Place × Row). is_lt (place_cmp sort e.0 other.0)) everyone) o false) ↔ HasLater sort rows (map (λ (e : Place × Row). e.1) items)
+    later_by items None within is = (λ e. cc e, λ has. cc (sym is ∙ has.is_last))
+    later_by items (Some e) within is = (
+      λ any. let one = later_row e (within e refl) any in record { last = e.1; is_last = is; row = one.0; among = one.1; later = one.2 },
+      λ has. later_any e (within e refl) has.row has.among (subst (λ (r : Row). IsBefore sort r has.row) (sym (same_Some e.1 has.last (sym is ∙ has.is_last))) has.later),
+    )
+
+    later_is : (items : List (Place × Row)) → ((e : Place × Row) → IsIn items e → IsIn everyone e) → IsTrue (any_after sort items everyone) ↔ HasLater sort rows (map (λ (e : Place × Row). e.1) items)
+    later_is items within = later_by items (last_item items) (λ e is. elim (last_among None items e is) [ inl never ↦ cc never | inr among ↦ within e among ]) (last_map (λ (e : Place × Row). e.1) None items)
+
+    -- ---- one page
+
+    rows_before : (items : List (Place × Row)) (row : Row) → ((e : Place × Row) → IsIn items e → IsIn everyone e) → AllByRecursion (λ (d : Place × Row). is_lt (place_cmp sort d.0 (place_of sort row)) ≡ true) items
+        → AllByRecursion (λ other. IsBefore sort other row) (map (λ (e : Place × Row). e.1) items)
+    rows_before items row within all = all_in (λ other. IsBefore sort other row) (map (λ (e : Place × Row). e.1) items) (λ other among.
+        let one = from_map (λ (e : Place × Row). e.1) items other among in
+        let less = in_all (λ (d : Place × Row). is_lt (place_cmp sort d.0 (place_of sort row)) ≡ true) items one.0 all one.1 in
+        subst (λ (r : Row). IsBefore sort r row) one.2 (subst (λ (p : Place). is_lt (place_cmp sort p (place_of sort row)) ≡ true) (placed one.0 (within one.0 one.1)) less))
+
+    rows_behind : (items : List (Place × Row)) (row : Row) → ((e : Place × Row) → IsIn items e → IsIn everyone e) → AllByRecursion (λ (d : Place × Row). is_lt (place_cmp sort (place_of sort row) d.0) ≡ true) items
+        → AllByRecursion (IsBefore sort row) (map (λ (e : Place × Row). e.1) items)
+    rows_behind items row within all = all_in (IsBefore sort row) (map (λ (e : Place × Row). e.1) items) (λ other among.
+        let one = from_map (λ (e : Place × Row). e.1) items other among in
+        let less = in_all (λ (d : Place × Row). is_lt (place_cmp sort (place_of sort row) d.0) ≡ true) items one.0 all one.1 in
+        subst (λ (r : Row). IsBefore sort row r) one.2 (subst (λ (p : Place). is_lt (place_cmp sort (place_of sort row) p) ≡ true) (placed one.0 (within one.0 one.1)) less))
+
+    no_room : (page : Page) (items : List (Place × Row)) (row : Row) → ((e : Place × Row) → IsIn items e → IsIn everyone e) → length items ≡ page.size
+        → (high : Option Place) → page.before ≡ high → MatchOption high (AllByRecursion (λ (d : Place × Row). is_lt (place_cmp sort d.0 (place_of sort row)) ≡ true) items) (λ cursor. AllByRecursion (λ (d : Place × Row). is_lt (place_cmp sort (place_of sort row) d.0) ≡ true) items)
+        → HasNoRoom sort page (map (λ (e : Place × Row). e.1) items) row
+    no_room page items row within full None is all =
+        (length-map items (λ (e : Place × Row). e.1) ∙ full, subst (λ (o : Option Place). MatchOption o (AllByRecursion (λ other. IsBefore sort other row) (map (λ (e : Place × Row). e.1) items)) (λ cursor. AllByRecursion (IsBefore sort row) (map (λ (e : Place × Row). e.1) items))) (sym is) (rows_before items row within all))
+    no_room page items row within full (Some cursor) is all =
+        (length-map items (λ (e : Place × Row). e.1) ∙ full, subst (λ (o : Option Place). MatchOption o (AllByRecursion (λ other. IsBefore sort other row) (map (λ (e : Place × Row). e.1) items)) (λ cursor. AllByRecursion (IsBefore sort row) (map (λ (e : Place × Row). e.1) items))) (sym is) (rows_behind items row within all))
+
+    page_is : (page : Page) (items : List (Place × Row)) → IsSlice page.size page.after page.before everyone items
+        → IsPage sort page rows (record { rows = map (λ (e : Place × Row). e.1) items; before = any_before sort items everyone; after = any_after sort items everyone })
+    page_is page items slice =
+        let within : (e : Place × Row) → IsIn items e → IsIn everyone e = λ e among. (slice.asked e among).0 in
+        record {
+          in_order = pairwise_values (place_cmp sort) (IsBefore sort) items (λ d e p q less.
+              subst (λ (a : Place). is_lt (place_cmp sort a (place_of sort e.1)) ≡ true) (placed d (within d p)) (subst (λ (a : Place). is_lt (place_cmp sort d.0 a) ≡ true) (placed e (within e q)) less)) slice.in_order;
+          short = subst (λ n. n ≤ page.size) (sym (length-map items (λ (e : Place × Row). e.1))) slice.short;
+          asked = λ row among.
+              let one = from_map (λ (e : Place × Row). e.1) items row among in
+              let asked = slice.asked one.0 one.1 in
+              let from = from_place rows one.0 apart asked.0 in
+              (subst (λ (r : Row). IsIn rows r) one.2 from.1, subst (λ (r : Row). IsBetween sort page.after page.before (place_of sort r)) one.2 (subst (λ (p : Place). IsBetween sort page.after page.before p) from.0 asked.1));
+          whole = λ row among asked.
+              elim (slice.whole (place_of sort row, row) (in_place rows row apart among) asked) [
+                | inl here ↦ inl (in_map (λ (e : Place × Row). e.1) items (place_of sort row, row) here)
+                | inr out ↦ inr (no_room page items row within out.0 page.before refl out.1)
+              ];
+          has_earlier = earlier_is items within;
+          has_later = later_is items within;
+        }
+
+    pub page_exact : (page : Page) → HasOneCursor page → IsPage sort page rows (page_of sort page rows)
+    page_exact page one = page_is page (slice_of sort page (by_place sort rows)) (slice_is page.size page.after page.before (by_place sort rows) one (by_place_sorted rows))

@@ -1,0 +1,5 @@
+use Rattle.store_model.proofs.laws.refusals_are_sourced.Goals as goal
+use Rattle.store_model.proofs.Runs.{run_sourced}
+
+pub returns : goal.returns
+returns c = run_sourced
