@@ -1,0 +1,7 @@
+//! jsonapid: a server of typed, linked resources by JSON:API 1.1.
+#![tactic(auto)]
+
+mod note_places;
+mod note_rows;
+
+fn main() {}
