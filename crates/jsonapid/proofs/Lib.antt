@@ -1,1 +1,2 @@
+mod NoteAnswers
 mod NoteLemmas

@@ -1,1 +1,2 @@
 pub mod NoteRows
+pub mod NoteTasks
