@@ -89,9 +89,9 @@ pub created_world : (ns later : List Note) (next : ℕ) (text : List ℕ) → 1 
 created_world ns later next text low is =
     let n = next_of ns next in
     let rows : note_entries later ≡ put key_cmp (note_key (decimal (next_id (note_world ns next) 0))) (note_row (made (note_world ns next) text)) (note_entries ns) =
-        is ∙ ap (λ k. put key_cmp (note_key (decimal k)) (note_row (record { id = decimal k; text = text })) (note_entries ns)) (sym n) in
+    is ∙ ap (λ k. put key_cmp (note_key (decimal k)) (note_row (record { id = decimal k; text = text })) (note_entries ns)) (sym n) in
     let counters : (if next + 1 == 1 then [] else ((0, next + 1) ∷ [])) ≡ put nat_cmp 0 (next_id (note_world ns next) 0 + 1) (if next == 1 then [] else ((0, next) ∷ [])) =
-        sym (counters_after next low) ∙ ap (λ k. put nat_cmp 0 (k + 1) (if next == 1 then [] else ((0, next) ∷ []))) (sym n) in
+    sym (counters_after next low) ∙ ap (λ k. put nat_cmp 0 (k + 1) (if next == 1 then [] else ((0, next) ∷ []))) (sym n) in
     λ i. record { rows = rows i; counters = counters i }
 
 -- where no id is left, a creation is refused

@@ -1,11 +1,11 @@
-ghost use Rattle.std.specs.Prelude.{◌≡◌, ◌<◌, Some, IfOk, OnErr};
+ghost use Rattle.std.specs.Prelude.{◌≡◌, ◌<◌, Some, IfOk, OnErr, option_map};
 ghost use Rattle.resource_schema.specs.Kinds.{notes};
 ghost use Rattle.error_objects.specs.Refusals.{refusal};
 ghost use Rattle.error_objects.specs.ErrorReply.{error_reply};
 ghost use Rattle.world_cells.specs.World.{next_id};
 ghost use Rattle.store_model.specs.Answer.{answer, effect, created_reply};
 ghost use Rattle.store_model.specs.Valid.{last_next};
-ghost use Rattle.jsonapid.specs.NoteTasks.{fetching, creating, found_reply};
+ghost use Rattle.jsonapid.specs.NoteTasks.{fetching, creating, found_reply, text_of_values, first_text};
 ghost use Rattle.jsonapid.specs.NoteRows.{note_row};
 
 use crate::note_documents::{note_document, note_path};
@@ -13,7 +13,7 @@ use crate::note_places::{find_note, put_note};
 use crate::note_rows::Note;
 use error_objects::{Blame, Code, Refusal, error_reply};
 use http_messages::{Allow, Content, Reply};
-use ident_rules::{Id, Key, List, NoMemory, Text};
+use ident_rules::{Id, NoMemory, Text};
 use resource_schema::{AttrValue, Target};
 use std::alloc::Global;
 use std::marker::Model;
@@ -130,4 +130,77 @@ impl NoteDesk {
         }
         self.create_next(text)
     }
+}
+
+/// The text that the values of a new note begin with.
+fn text_of_values(values: &[AttrValue]) -> Option<&Text>
+    ensures { option_map (λ t. t.now) result ≡ text_of_values values.now }
+{
+    match values.first() {
+        Some(AttrValue::Text(text)) => Some(text),
+        _ => None,
+    }
+}
+
+/// The text that the first operation gives a new note.
+fn first_text(operations: &[Operation]) -> Option<&Text>
+    ensures { option_map (λ t. t.now) result ≡ first_text operations.now }
+{
+    match operations.first() {
+        Some(Operation::Create { values, .. }) => text_of_values(values.as_slice()),
+        _ => None,
+    }
+}
+
+impl NoteDesk {
+    ghost use Rattle.jsonapid.specs.NoteTasks.{IsNoteTask};
+
+    /// Runs a task that is built.
+    fn run(&mut self, task: Task) -> Result<Reply, NoMemory>
+        requires fit { IsNoteTask task }
+        ensures done { IfOk result (λ r. (r ≡ answer notes self.old task) × (self.new ≡ effect notes self.old task)) }
+        ensures kept { OnErr result (self.new ≡ self.old) }
+    {
+        match task {
+            Task::Fetch(
+                Fetch {
+                    target: Target::Resource(key),
+                    query: _,
+                },
+            ) => self.fetch(&key.id),
+            Task::Fetch(_) => unreachable!(),
+            Task::Change {
+                operations,
+                form: _,
+            } => match first_text(operations.as_slice()) {
+                Some(text) => {
+                    let text = text.copy(self.alloc)?;
+                    self.create(text)
+                }
+                None => unreachable!(),
+            },
+        }
+    }
+}
+
+impl Desk for NoteDesk {
+    ghost use Rattle.jsonapid.specs.Alone.{StandsAlone};
+    ghost use Rattle.jsonapid.specs.NoteTasks.{note_meaning};
+
+    type Fixed = ();
+
+    ghost fixed = { λ _. tt };
+
+    ghost meaning = { λ _. note_meaning };
+
+    ghost stands = { λ d _ w seen mine. StandsAlone note_meaning d w seen mine };
+
+    fn answer(&mut self, task: Task) -> Result<Reply, DeskEnd> {
+        match self.run(task) {
+            Ok(reply) => Ok(reply),
+            Err(NoMemory) => Err(DeskEnd::NoMemory),
+        }
+    }
+
+    ghost legal = { λ d first w seen mine stands. stands.legal };
 }

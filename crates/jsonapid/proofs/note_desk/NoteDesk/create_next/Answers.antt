@@ -24,11 +24,10 @@ returns-clause-done c =
     let ran = run_creates w text left in
     let id : c.of_number.result ≡ decimal (next_id w 0) = c.of_number.ensures ∙ ap decimal (sym n) in
     let put_is : note_entries c.put_note.new.notes.items ≡ put key_cmp (note_key (decimal c.self.inside.next)) (note_row (record { id = decimal c.self.inside.next; text = text })) (note_entries c.self.inside.notes.items) =
-        c.in_ok-put_note.ensures.ok
-        ∙ ap (λ (i : List ℕ). put key_cmp (note_key i) (note_row (record { id = i; text = text })) (note_entries c.self.inside.notes.items)) c.of_number.ensures in
-    (
+    c.in_ok-put_note.ensures.ok
+    ∙ ap (λ (i : List ℕ). put key_cmp (note_key i) (note_row (record { id = i; text = text })) (note_entries c.self.inside.notes.items)) c.of_number.ensures in (
       c.in_ok-reply.ensures ∙ ap (λ (i : List ℕ). created_reply notes (Some (note_row (record { id = i; text = text })))) id
-      ∙ sym (ap (run_reply notes Created (Create 0 None None (value.Text text ∷ []) [] ∷ [])) ran),
+          ∙ sym (ap (run_reply notes Created (Create 0 None None (value.Text text ∷ []) [] ∷ [])) ran),
       created_world c.self.inside.notes.items c.put_note.new.notes.items c.self.inside.next text c.self.invariant.0 put_is
-      ∙ ap (λ (v : World). made_world v text) c.self.view_is ∙ sym (ap (run_world w) ran),
+          ∙ ap (λ (v : World). made_world v text) c.self.view_is ∙ sym (ap (run_world w) ran),
     )
