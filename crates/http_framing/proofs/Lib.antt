@@ -1,0 +1,4 @@
+pub mod RoomSteps
+pub mod HeadTexts
+pub mod WholeHeads
+pub mod Takes
