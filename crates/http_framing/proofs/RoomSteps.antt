@@ -1,5 +1,5 @@
 -- The bytes in use of a room, as they are read and used.
-use Rattle.std.proofs.Common.{◌≡◌, ℕ, ◌+◌, ◌-◌, ◌≤◌, min, List, [], ◌∷◌, zero, suc, ◌++◌, length, take, drop, None, Some, refl, sym, ap, subst, ◌∙◌, arith, length-take, length-drop, append-nil, length-append, drop_of_length-le}
+use Rattle.std.proofs.Common.{◌≡◌, ℕ, ◌+◌, ◌-◌, ◌≤◌, min, List, [], ◌∷◌, zero, suc, ◌++◌, length, take, drop, None, Some, sym, ap, ◌∙◌, arith, length-take, length-drop, append-nil, length-append, drop_of_length-le}
 use Rattle.std.proofs.lemmas.List.{drop-take, drop-drop}
 use Rattle.std.proofs.Math.Seq.{take-add}
 use Rattle.std.proofs.lemmas.List.{with_items_is}
@@ -8,7 +8,7 @@ use Rattle.std.specs.declared.vec.Vec.{Vec}
 use Rattle.std.specs.List.{slice_range}
 use Rattle.std.specs.declared.option.Option.{Option}
 use Rattle.std.specs.Io.KnownBytes.{Keeps, Appends, Consumes}
-use Rattle.outer_ends.specs.StreamLaws.{appends_none, appends_kept, consumes_none}
+use Rattle.outer_ends.specs.StreamLaws.{appends_none, appends_kept}
 
 -- the first bytes in use are let go
 pub used_less : (room : List ℕ) (s e n : ℕ) → s + n ≤ e → slice_range room (s + n) e ≡ drop n (slice_range room s e)

@@ -1,8 +1,7 @@
 -- What was seen over several reads.
-use Rattle.std.proofs.Common.{◌≡◌, ℕ, ◌<◌, List, [], ◌++◌, length, take, refl, sym, ap, subst, ◌∙◌, arith, append_assoc, append-nil, take_all, length-append}
+use Rattle.std.proofs.Common.{◌≡◌, ℕ, ◌<◌, List, [], ◌++◌, length, refl, sym, ap, subst, ◌∙◌, arith, append_assoc, append-nil, take_all, length-append}
 use Rattle.std.specs.declared.option.Option.{Option}
 use Rattle.std.specs.Prelude.{IfSome, None, Some}
-use Rattle.std.specs.Io.KnownBytes.{Appends, Consumes}
 use Rattle.outer_ends.specs.StreamLaws.{appends_none, appends_then, consumes_none, consumes_then}
 use Rattle.http_model.specs.Heads.{front, head_limit, IsOpen}
 use Rattle.http_model.specs.Rests.{IsBetween}

@@ -1,4 +1,4 @@
-use Rattle.std.proofs.Common.{◌≡◌, ◌≤◌, ◌∙◌, ap, sym, subst, ℕ, List, length, arith}
+use Rattle.std.proofs.Common.{sym, subst, ℕ, List, arith}
 use Rattle.httparse.specs.Spans.{IsRequestAt}
 use Rattle.http_model.specs.Heads.{front, IsOpen, NeverHasHead}
 use Rattle.http_framing.specs.Fronts.{WholeHead}

@@ -1,4 +1,4 @@
-use Rattle.std.proofs.Common.{◌≡◌, sym, ap, ◌∙◌, length, Err}
+use Rattle.std.proofs.Common.{sym, ap, ◌∙◌, length, Err}
 use Rattle.std.specs.List.{list_all}
 use Rattle.http_model.specs.Heads.{is_visible}
 use Rattle.http_framing.proofs.fronts.judge_front.Goals as goal
@@ -21,6 +21,6 @@ returns-else-is_target_visible c =
 pub returns-in-Err-TooManyHeaders : goal.returns-in-Err-TooManyHeaders
 returns-in-Err-TooManyHeaders c =
     absurd (
-      c.heads_are_decided.ensures.of_room c.args.bytes.now (length c.args.spans.now) c.requires
-      (c.parse_request.ensures.too_many (c.in-Err-TooManyHeaders.is ∙ ap Err c.in-Err-TooManyHeaders.field-0-is))
+    c.heads_are_decided.ensures.of_room c.args.bytes.now (length c.args.spans.now) c.requires
+    (c.parse_request.ensures.too_many (c.in-Err-TooManyHeaders.is ∙ ap Err c.in-Err-TooManyHeaders.field-0-is))
     )

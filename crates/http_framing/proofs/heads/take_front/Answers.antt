@@ -1,7 +1,5 @@
-use Rattle.std.proofs.Common.{◌≡◌, ◌<◌, ◌≤◌, ◌∙◌, ap, sym, refl, subst, ℕ, List, length, arith, true, false}
-use Rattle.http_model.specs.Blanks.{empty_lines}
-use Rattle.http_model.specs.Heads.{front, head_limit, IsOpen, NeverHasHead, IsEmptyLines}
-use Rattle.http_framing.specs.Fills.{Adds}
+use Rattle.std.proofs.Common.{◌<◌, ◌∙◌, ap, sym, refl, subst, length, arith}
+use Rattle.http_model.specs.Heads.{head_limit, IsOpen, IsEmptyLines}
 use Rattle.http_framing.proofs.Takes.{adds_on, takes_of, open_short}
 use Rattle.http_framing.proofs.heads.take_front.Goals as goal
 

@@ -1,4 +1,4 @@
-use Rattle.std.proofs.Common.{◌≡◌, ◌∙◌, sym, subst, List, ℕ, take}
+use Rattle.std.proofs.Common.{◌∙◌, sym, subst, take}
 use Rattle.std.specs.Prelude.{IsUtf8}
 use Rattle.http_framing.proofs.HeadTexts.{token_text, names_text}
 use Rattle.http_framing.proofs.texts.message_of.Goals as goal

@@ -1,4 +1,4 @@
-use Rattle.std.proofs.Common.{◌≡◌, ◌≤◌, ◌+◌, ◌-◌, ◌∙◌, ap, drop, length, length-take, arith}
+use Rattle.std.proofs.Common.{◌-◌, ◌∙◌, ap, drop, length, length-take, arith}
 use Rattle.http_framing.proofs.RoomSteps.{used_less}
 use Rattle.http_framing.proofs.buffer.Buffer.advance.Goals as goal
 

@@ -1,5 +1,4 @@
-use Rattle.std.proofs.Common.{◌≡◌, ◌≤◌, ◌-◌, ◌+◌, ◌<◌, ◌∙◌, List, ℕ, [], ◌++◌, ap, sym, subst, drop, take, length, length-drop, arith, append-nil, refl}
-use Rattle.std.specs.List.{slice_range}
+use Rattle.std.proofs.Common.{◌≡◌, ◌∙◌, List, ℕ, [], ◌++◌, ap, sym, drop, take, length-drop, arith, append-nil}
 use Rattle.http_framing.proofs.RoomSteps.{used_more, used_same, appends_nothing, consumes_nothing}
 use Rattle.http_framing.proofs.buffer.Buffer.fill.Goals as goal
 
@@ -33,8 +32,8 @@ returns-in-Ok-eq0-clause-adds g c =
     record {
       bytes = take c.in-Ok-eq0.field-0 (drop end c.read_behind.new.room.items);
       kept =
-      used_same room c.read_behind.new.room.items start end c.make_room-start.ensures.ordered c.read_behind.ensures.kept ∙ c.make_room-start.ensures.kept ∙ c.self.view_is ∙ sym (append-nil c.args.self.now)
-      ∙ ap (λ (l : List ℕ). c.args.self.now ++ l) (sym (nothing c.in-Ok-eq0.field-0 (drop end c.read_behind.new.room.items) c.in-Ok-eq0.field-0-test));
+          used_same room c.read_behind.new.room.items start end c.make_room-start.ensures.ordered c.read_behind.ensures.kept ∙ c.make_room-start.ensures.kept ∙ c.self.view_is ∙ sym (append-nil c.args.self.now)
+          ∙ ap (λ (l : List ℕ). c.args.self.now ++ l) (sym (nothing c.in-Ok-eq0.field-0 (drop end c.read_behind.new.room.items) c.in-Ok-eq0.field-0-test));
       taken_more = c.in-Ok-eq0.ensures.taken;
       left_less = c.in-Ok-eq0.ensures.left.0;
     }
@@ -57,9 +56,8 @@ returns-in-Ok-clause-adds g c =
     record {
       bytes = take c.in-Ok.count (drop end c.read_behind.new.room.items);
       kept =
-      used_more room c.read_behind.new.room.items start end c.in-Ok.count c.make_room-start.ensures.ordered c.read_behind.ensures.kept
-      ∙ ap (λ (l : List ℕ). l ++ take c.in-Ok.count (drop end c.read_behind.new.room.items)) (c.make_room-start.ensures.kept ∙ c.self.view_is);
+          used_more room c.read_behind.new.room.items start end c.in-Ok.count c.make_room-start.ensures.ordered c.read_behind.ensures.kept
+          ∙ ap (λ (l : List ℕ). l ++ take c.in-Ok.count (drop end c.read_behind.new.room.items)) (c.make_room-start.ensures.kept ∙ c.self.view_is);
       taken_more = c.in-Ok.ensures.taken;
       left_less = c.in-Ok.ensures.left.0;
     }
-
