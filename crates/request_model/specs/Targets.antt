@@ -1,5 +1,5 @@
 -- Request targets (RFC 9112, section 3.2), and the URLs of a schema (of this project, within JSON:API 1.1, "Fetching Data").
-use Rattle.std.specs.Prelude.{ℕ, ◌<◌, ⊤, ◌||◌, ◌==◌, Bool, if◌then◌else◌, List, [], ◌∷◌, ◌++◌, codes, length, drop, Option, Some, None, option_map}
+use Rattle.std.specs.Prelude.{ℕ, ◌<◌, ⊤, ◌||◌, ◌==◌, Bool, if◌then◌else◌, List, [], ◌∷◌, codes, length, drop, Option, Some, None, option_map}
 use Rattle.std.specs.Option.{option_or}
 use Rattle.std.specs.List.{position_or_len}
 use Rattle.std.specs.Str.{bytes_eq, is_utf8}
@@ -132,12 +132,6 @@ body_methods allow.Related = []
 body_methods allow.One = codes "PATCH" ∷ []
 body_methods allow.Many = codes "PATCH" ∷ codes "POST" ∷ codes "DELETE" ∷ []
 body_methods allow.Operations = codes "POST" ∷ []
-
--- the value of the field Allow
-abbrev pub allow_text : List (List ℕ) → List ℕ
-allow_text [] = []
-allow_text (m ∷ []) = m
-allow_text (m ∷ n ∷ ms) = m ++ codes ", " ++ allow_text (n ∷ ms)
 
 -- the target answers this method
 abbrev pub allows : Allow → List ℕ → Bool
