@@ -1,13 +1,13 @@
 -- The cursor of a place is read back as the place.
-use Rattle.std.specs.Prelude.{ℕ, ℤ, pos, negsuc, ◌<◌, ◌^◌, ◌++◌, Bool, true, nat_lt, IsUtf8, List, [], ◌∷◌, map, suc, max, Option, Some, Ok, option_map, option_and_then, get_or}
+use Rattle.std.specs.Prelude.{ℕ, ℤ, pos, negsuc, ◌<◌, ◌^◌, ◌++◌, Bool, true, nat_lt, IsUtf8, List, [], ◌∷◌, map, suc, max, Option, Some, Ok, option_and_then, get_or}
 use Rattle.std.specs.Result.{result_ok}
 use Rattle.std.specs.List.{AllZip, AllByRecursion}
 use Rattle.std.specs.Str.{bytes_eq}
 use Rattle.std.proofs.Common.{◌≡◌, refl, ap, ◌∙◌, arith}
 use Rattle.std.proofs.lemmas.Bool.Decides.{nat_tests}
 use Rattle.std.proofs.lemmas.Slice.Eq.{bytes_eq-Decides}
-use Rattle.serde_json.specs.Data.{Data, number, string, array, depth, items_depth}
-use Rattle.serde_json.specs.Find.{of_integer, as_i64, as_array}
+use Rattle.serde_json.specs.Data.{Data, string, array, depth, items_depth}
+use Rattle.serde_json.specs.Find.{as_array}
 use Rattle.serde_json.specs.View.{items_of}
 use Rattle.serde_json.specs.Written.{compact_text}
 use Rattle.base64.specs.Engines.{url_safe_no_pad}
@@ -24,7 +24,7 @@ use Rattle.resource_schema.specs.declared.values.AttrValue.TheVariants as value
 use Rattle.resource_schema.specs.declared.values.Place.{Place}
 use Rattle.resource_schema.specs.Forms.{has_form, is_i64}
 use Rattle.request_model.specs.Words.{some_if}
-use Rattle.request_model.specs.Values.{value_data, plain_value, value_from}
+use Rattle.request_model.specs.Values.{integer, value_data, plain_value, value_from}
 use Rattle.request_model.specs.Cursors as cursors
 use Rattle.request_model.specs.Cursors.{cursor_text, IsPlaceOf, place_from, place_of_cursor}
 use Rattle.request_model.specs.Options as option
@@ -43,7 +43,7 @@ small n e = grind (arith, nat_tests, e)
 below : (n : ℕ) → n < 2 ^ 63 → n < 2 ^ 64
 below n l = omega arith
 
-int-plain : (z : ℤ) → is_i64 z ≡ true → IsPlain (number (of_integer z))
+int-plain : (z : ℤ) → is_i64 z ≡ true → IsPlain (integer z)
 int-plain (pos n) e = below n (small n e)
 int-plain (negsuc n) e = small n e
 
@@ -53,25 +53,33 @@ data-plain f nullable (value.Int z) e = int-plain z (int_fits f nullable z e)
 data-plain f nullable (value.Text t) e = tt
 data-plain f nullable (value.Bool b) e = tt
 
+int-utf8 : (z : ℤ) → HasUtf8 (integer z)
+int-utf8 (pos n) = tt
+int-utf8 (negsuc n) = tt
+
 data-utf8 : (v : AttrValue) → cursors.HasUtf8 v → HasUtf8 (value_data v)
 data-utf8 value.Null u = tt
-data-utf8 (value.Int z) u = tt
+data-utf8 (value.Int z) u = int-utf8 z
 data-utf8 (value.Text t) u = u
 data-utf8 (value.Bool b) u = tt
 
+int-flat : (z : ℤ) → depth (integer z) ≡ 0
+int-flat (pos n) = refl
+int-flat (negsuc n) = refl
+
 data-flat : (v : AttrValue) → depth (value_data v) ≡ 0
 data-flat value.Null = refl
-data-flat (value.Int z) = refl
+data-flat (value.Int z) = int-flat z
 data-flat (value.Text t) = refl
 data-flat (value.Bool b) = refl
 
-int-back : (z : ℤ) → is_i64 z ≡ true → as_i64 (of_integer z) ≡ Some z
+int-back : (z : ℤ) → is_i64 z ≡ true → plain_value (integer z) ≡ Some (value.Int z)
 int-back (pos n) e = rw e refl
 int-back (negsuc n) e = refl
 
 plain-back : (f : Form) (nullable : Bool) (v : AttrValue) → has_form f nullable v ≡ true → plain_value (value_data v) ≡ Some v
 plain-back f nullable value.Null e = refl
-plain-back f nullable (value.Int z) e = ap (option_map value.Int) (int-back z (int_fits f nullable z e))
+plain-back f nullable (value.Int z) e = int-back z (int_fits f nullable z e)
 plain-back f nullable (value.Text t) e = refl
 plain-back f nullable (value.Bool b) e = refl
 

@@ -34,7 +34,7 @@ use Rattle.request_model.specs.declared.forms.Act.{Act}
 use Rattle.request_model.specs.declared.forms.Act.TheVariants as act
 use Rattle.request_model.specs.Words.{all_ok, result_map}
 use Rattle.request_model.specs.Results.{err_if}
-use Rattle.request_model.specs.Targets.{target_of_path}
+use Rattle.request_model.specs.Targets.{IsKnownTarget, target_of_path}
 use Rattle.request_model.specs.Documents.{bad_document, object_at, named_in, keeps_rule, linkage}
 use Rattle.request_model.specs.OperationLists.{op_at, optional_text, aim_of_ref, ref_aim, aim_of_target, href_aim, aim_by, if_many, act_of, with_data, operation_by, operation_of, absent, list_pointer, operations_of}
 use Rattle.request_model.proofs.Inversions.{bind-Ok, then-Ok, map-Ok, err_if-Ok, negated, ok_or-Ok, all_ok-zip}
@@ -42,7 +42,7 @@ use Rattle.request_model.proofs.Zips.{zip-length, zip-right, position-found}
 use Rattle.request_model.proofs.Ordered.{array-ordered, found-ordered, get-ordered}
 use Rattle.request_model.proofs.LinkageFits.{named_by-kind, rule-IsNamed, linkage-fits}
 use Rattle.request_model.proofs.FieldFits.{relationship-known}
-use Rattle.request_model.proofs.TargetFits.{IsKnown, target-known}
+use Rattle.request_model.proofs.TargetFits.{target-known}
 use Rattle.request_model.proofs.DocumentFits.{create_of-fits, update_of-fits}
 
 -- ---- aims
@@ -78,7 +78,7 @@ ref_aim-fits schema at d a e =
     let within : kind_of t.0 < length schema = subst (λ k. k < length schema) (sym kinds) known in
     aim_of_ref-fits schema at (record { named = t.0; place = stands.Ref }) r.0 a (rule-IsNamed schema t.0 within rule) u.2
 
-aim_of_target-fits : (schema : Schema) (t : Target) → IsKnown schema t → IsAim schema (aim_of_target t)
+aim_of_target-fits : (schema : Schema) (t : Target) → IsKnownTarget schema t → IsAim schema (aim_of_target t)
 aim_of_target-fits schema (target.Collection kind) known = known
 aim_of_target-fits schema (target.Resource key) known = known
 aim_of_target-fits schema (target.Related key rel) known = tt

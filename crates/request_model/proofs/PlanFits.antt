@@ -30,7 +30,7 @@ use Rattle.error_objects.specs.declared.codes.Code.TheVariants as code
 use Rattle.error_objects.specs.declared.refusals.Refusal.{Refusal}
 use Rattle.error_objects.specs.Refusals.{refusal, at_header}
 use Rattle.request_model.specs.Results.{err_if}
-use Rattle.request_model.specs.Targets.{split_target, target_of_path, allow_of, allows, need_of}
+use Rattle.request_model.specs.Targets.{IsKnownTarget, split_target, target_of_path, allow_of, allows, need_of}
 use Rattle.request_model.specs.Negotiation.{content, acceptable}
 use Rattle.request_model.specs.Queries.{pairs_of, query_of, no_parameter}
 use Rattle.request_model.specs.Documents.{bad_document, create_of, update_of, linkage}
@@ -39,7 +39,7 @@ use Rattle.request_model.specs.Plans.{body_value, primary_data, change, by_path,
 use Rattle.request_model.proofs.Inversions.{bind-Ok, then-Ok, map-Ok, err_if-Ok, negated, ok_or-Ok}
 use Rattle.request_model.proofs.Ordered.{found-ordered}
 use Rattle.request_model.proofs.LinkageFits.{linkage-fits}
-use Rattle.request_model.proofs.TargetFits.{IsKnown, target-known}
+use Rattle.request_model.proofs.TargetFits.{target-known}
 use Rattle.request_model.proofs.DocumentFits.{create_of-fits, update_of-fits}
 use Rattle.request_model.proofs.ListFits.{many-from_test, operations_of-fit}
 use Rattle.request_model.proofs.QueryFits.{query_of-fits, fetch-fits}
@@ -104,7 +104,7 @@ data-ordered order bytes d e =
 one-fits : (schema : Schema) (form : ReplyForm) (operation : Operation) → FitsOperation schema operation → FitsForm form (operation ∷ []) → IsFit schema (change form operation)
 one-fits schema form operation fits formed = ((fits, tt), formed)
 
-change_of-fits : AreReadInOrder → (schema : Schema) (method body : List ℕ) (t : Target) (asked : Task) → is_schema schema ≡ true → IsKnown schema t → allows (allow_of schema t) method ≡ true → change_of schema method body t ≡ Ok asked → IsFit schema asked
+change_of-fits : AreReadInOrder → (schema : Schema) (method body : List ℕ) (t : Target) (asked : Task) → is_schema schema ≡ true → IsKnownTarget schema t → allows (allow_of schema t) method ≡ true → change_of schema method body t ≡ Ok asked → IsFit schema asked
 change_of-fits order schema method body (target.Collection kind) asked rules known allowed e =
     let a = bind-Ok (primary_data body) _ asked e in
     let b = bind-Ok (create_of schema (Some kind) data_pointer a.0) _ asked a.2 in
@@ -133,12 +133,12 @@ change_of-fits order schema method body target.Operations asked rules known allo
     let same : task.Change b.0 reply_form.Results ≡ asked = cc b.2 in
     subst (IsFit schema) same (operations_of-fit schema a.0 b.0 rules (body-ordered order body a.0 a.1) b.1)
 
-fetch_of-fits : (schema : Schema) (t : Target) (query method : List ℕ) (asked : Task) → IsKnown schema t → allows (allow_of schema t) method ≡ true → is_fetch method ≡ true → fetch_of schema t query ≡ Ok asked → IsFit schema asked
+fetch_of-fits : (schema : Schema) (t : Target) (query method : List ℕ) (asked : Task) → IsKnownTarget schema t → allows (allow_of schema t) method ≡ true → is_fetch method ≡ true → fetch_of schema t query ≡ Ok asked → IsFit schema asked
 fetch_of-fits schema t query method asked known allowed fetch e =
     let a = map-Ok (λ q. task.Fetch (record { target = t; query = q })) (query_of schema t query) asked e in
     subst (IsFit schema) a.2 (fetch-fits schema t a.0 known (λ same. post_alone method (subst (λ t. allows (allow_of schema t) method ≡ true) same allowed) fetch) (query_of-fits schema t query a.0 a.1))
 
-task_of-fits : AreReadInOrder → (schema : Schema) (m : Message) (t : Target) (query : List ℕ) (asked : Task) → is_schema schema ≡ true → IsKnown schema t → allows (allow_of schema t) m.method ≡ true → task_of schema m t query ≡ Ok asked → IsFit schema asked
+task_of-fits : AreReadInOrder → (schema : Schema) (m : Message) (t : Target) (query : List ℕ) (asked : Task) → is_schema schema ≡ true → IsKnownTarget schema t → allows (allow_of schema t) m.method ≡ true → task_of schema m t query ≡ Ok asked → IsFit schema asked
 task_of-fits order schema m t query asked rules known allowed e =
     let a = then-Ok (judged (content m.fields (need_of (allow_of schema t) m.method))) _ asked e in
     let b = then-Ok (err_if (not (acceptable m.fields)) (at_header code.NotAcceptable (codes "Accept"))) _ asked a.2 in

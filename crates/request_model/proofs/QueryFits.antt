@@ -25,13 +25,13 @@ use Rattle.request_model.specs.declared.forms.Asked.{Asked}
 use Rattle.request_model.specs.declared.forms.Parameter.{Parameter}
 use Rattle.request_model.specs.declared.forms.Parameter.TheVariants as parameter
 use Rattle.request_model.specs.Words.{some_if, all_some, begins, parts_at, comma, dot}
+use Rattle.request_model.specs.Targets.{IsKnownTarget}
 use Rattle.request_model.specs.Results.{err_if}
 use Rattle.request_model.specs.Cursors.{place_of_cursor}
 use Rattle.request_model.specs.Queries.{pairs_of, parameter_of, has_resources, is_page, primary_kind, knows, known_parameter, in_brackets, listed, rels_from, path_of, paths_of, field_set_of, sort_key_of, sort_keys_of, are_distinct, page_size_of, first_page, no_query, with_query, or_bad, with_parameter, has_name, with_pair, with_pairs, sort_forms, place_at, query_of}
 use Rattle.request_model.proofs.Inversions.{bind-Ok, then-Ok, map-Ok, err_if-Ok, ok_or-Ok, bind-Some, map-Some, some_if-Some, some_or_none, all_some-zip}
 use Rattle.request_model.proofs.Zips.{zip-right, all-always, position-found}
 use Rattle.request_model.proofs.CursorFits.{within-found, cursor-fits}
-use Rattle.request_model.proofs.TargetFits.{IsKnown}
 
 -- ---- values
 
@@ -213,7 +213,7 @@ related-fits schema kind rel query known fits =
     leads_to (λ k. FitsQuery schema k query) (slice_get (relationships_of schema kind) rel) found.0 found.1 fits
 
 -- a query of a known target that is not the operations
-pub fetch-fits : (schema : Schema) (t : Target) (query : Query) → IsKnown schema t → (t ≡ target.Operations → ⊥) → QueryFits schema t query → FitsFetch schema (record { target = t; query = query })
+pub fetch-fits : (schema : Schema) (t : Target) (query : Query) → IsKnownTarget schema t → (t ≡ target.Operations → ⊥) → QueryFits schema t query → FitsFetch schema (record { target = t; query = query })
 fetch-fits schema (target.Collection kind) query known other q = (known, q.fits)
 fetch-fits schema (target.Resource key) query known other q = (known, q.fits)
 fetch-fits schema (target.Related key rel) query known other q = (known.0, related-fits schema key.kind rel query known.1 q.fits)

@@ -3,7 +3,7 @@ use Rattle.std.specs.Prelude.{ℕ, ◌==◌, ◌&&◌, Bool, true, false, not, n
 use Rattle.std.specs.Option.{ok_or, option_map_or}
 use Rattle.std.specs.List.{position, list_all, AllZip, AllByRecursion}
 use Rattle.std.specs.Str.{bytes_eq}
-use Rattle.std.proofs.Common.{◌≡◌, refl, sym, ap, ◌∙◌, arith}
+use Rattle.std.proofs.Common.{◌≡◌, refl, sym, ap, ◌∙◌, arith, subst}
 use Rattle.std.proofs.lemmas.Bool.Decides.{nat_tests}
 use Rattle.serde_json.specs.Data.{Data}
 use Rattle.serde_json.specs.Find.{get, as_object}
@@ -88,7 +88,7 @@ attribute_from-keeps group m a e =
     let t = bind-Ok (default_at (group // m.0 // codes "default") r.0 s.0 (get (codes "default") m.1)) _ a s.2 in
     let named = name-parts reserved_fields (group // m.0) m.0 p.0 p.1 in
     let same : record { name = m.0; form = r.0; nullable = s.0; default = t.0 } ≡ a = cc t.2 in
-    rw (sym same) (refl, both _ _ (both _ _ named.0 named.1) (default_at-form (group // m.0 // codes "default") r.0 s.0 (get (codes "default") m.1) t.0 t.1))
+    subst (λ (a : Attribute). (a.name ≡ m.0) × (is_attribute a ≡ true)) same (refl, both _ _ (both _ _ named.0 named.1) (default_at-form (group // m.0 // codes "default") r.0 s.0 (get (codes "default") m.1) t.0 t.1))
 
 -- ---- relationships
 
@@ -105,7 +105,7 @@ relationship_from-keeps kinds attributes group m r e =
     let place = and_then-Some (λ t. position (bytes_eq t) kinds) (text_at (codes "target") m.1) t.0 (ok_or-Ok _ _ t.0 t.1) in
     let within = (position-found (bytes_eq place.0) kinds t.0 place.2).3 in
     let same : record { name = m.0; many = s.0; target = t.0 } ≡ r = cc t.2 in
-    rw (sym same) (refl, both _ _ (both _ _ (both _ _ named.0 named.1) free) (below t.0 (length kinds) within)) where
+    subst (λ (r : Relationship). (r.name ≡ m.0) × (is_relationship (length kinds) attributes r ≡ true)) same (refl, both _ _ (both _ _ (both _ _ named.0 named.1) free) (below t.0 (length kinds) within)) where
       below : (n k : ℕ) → n < k → nat_lt n k ≡ true
       below n k l = grind (arith, nat_tests, l)
 
@@ -150,7 +150,7 @@ kind_from-keeps kinds m k order e =
     let same : record { name = m.0; client_ids = r.0; attributes = t.0; relationships = v.0 } ≡ k = cc v.2 in
     let few_attributes : nat_le (length t.0) 64 ≡ true = rw attributes.0 own.1 in
     let few_relationships : nat_le (length v.0) 32 ≡ true = rw relationships.0 linked.1 in
-    rw (sym same) (refl, both _ _ (both _ _ (both _ _ (both _ _ (both _ _ (both _ _ (both _ _ named.0 named.1) few_attributes) few_relationships) attributes.1) relationships.1) attributes.2) relationships.2)
+    subst (λ (k : Kind). (k.name ≡ m.0) × (is_kind (length kinds) k ≡ true)) same (refl, both _ _ (both _ _ (both _ _ (both _ _ (both _ _ (both _ _ (both _ _ named.0 named.1) few_attributes) few_relationships) attributes.1) relationships.1) attributes.2) relationships.2)
 
 -- ---- the schema
 

@@ -20,9 +20,13 @@ use Rattle.ident_rules.specs.Id.{is_id}
 use Rattle.request_model.specs.Values.{value_data, value_from}
 use Rattle.json_forms.specs.Json.{json_of, items_list}
 
--- base64url without padding (RFC 4648, section 5) of the array of the sort values and the id
+-- a place in an order: an array of the sort values and the id
+abbrev pub place_data : Place → Data
+place_data place = array (items_of (map value_data place.values ++ string place.id ∷ []))
+
+-- the cursor of a place: base64url without padding (RFC 4648, section 5) of its compact JSON
 abbrev pub cursor_text : Place → List ℕ
-cursor_text place = encode_of url_safe_no_pad (compact_text (array (items_of (map value_data place.values ++ string place.id ∷ []))))
+cursor_text place = encode_of url_safe_no_pad (compact_text (place_data place))
 
 -- a place with one value of each form, null where the flag says so, and an id
 abbrev pub IsPlaceOf : List (Form × Bool) → Place → Type 0

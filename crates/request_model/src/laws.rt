@@ -18,6 +18,7 @@ ghost use Rattle.task_forms.specs.Fit.{IsFit};
 ghost use Rattle.request_model.specs.Cursors.{HasUtf8, IsPlaceOf, cursor_text, place_of_cursor};
 ghost use Rattle.request_model.specs.Plans.{is_list, planned, task_of};
 ghost use Rattle.request_model.specs.SchemaFile.{schema_of};
+ghost use Rattle.request_model.specs.Targets.{IsKnownTarget, target_of_path};
 
 use json_forms::{read_is_in_order, rendered_is_read_back, rendered_is_utf8, utf8_is_bytes};
 
@@ -25,6 +26,11 @@ use json_forms::{read_is_in_order, rendered_is_read_back, rendered_is_utf8, utf8
 /// of every value do that was read.
 pub fn read_schema_keeps_rules()
     ensures { (d : Data) (schema : List Kind) → schema_of d ≡ Ok schema → IsInByteOrder d → is_schema schema ≡ true }
+{}
+
+/// A target that a path names is known: its numbers are those of the schema, and its id keeps the rule of ids.
+pub fn found_target_is_known()
+    ensures { (schema : List Kind) (path : List ℕ) (target : Target) → target_of_path schema path ≡ Some target → IsKnownTarget schema target }
 {}
 
 /// A task that the plan of a message gives is fit for the schema.
