@@ -72,7 +72,7 @@ module _ (m : Meaning) where
   legal_more w [] e l f r = (f, r, tt)
   legal_more w (x ∷ xs) e l f r = (l.0, l.1, legal_more (m.effect w x.task) xs e l.2 f r)
 
-  after_more : (w : World) (es : List Entry) (e : Entry) → world_after m w (es ++ e ∷ []) ≡ m.effect (world_after m w es) e.task
+  pub after_more : (w : World) (es : List Entry) (e : Entry) → world_after m w (es ++ e ∷ []) ≡ m.effect (world_after m w es) e.task
   after_more w [] e = refl
   after_more w (x ∷ xs) e = after_more (m.effect w x.task) xs e
 

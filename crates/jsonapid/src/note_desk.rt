@@ -17,7 +17,7 @@ use ident_rules::{Id, NoMemory, Text};
 use resource_schema::{AttrValue, Target};
 use std::alloc::Global;
 use std::marker::Model;
-use task_forms::{Desk, DeskEnd, Fetch, Operation, Task};
+use task_forms::{Desk, DeskEnd, Operation, Task};
 
 /// The greatest next id.
 const LAST_NEXT: u64 = 9_223_372_036_854_775_807;
@@ -156,23 +156,17 @@ impl NoteDesk {
     ghost use Rattle.jsonapid.specs.NoteTasks.{IsNoteTask};
 
     /// Runs a task that is built.
-    fn run(&mut self, task: Task) -> Result<Reply, NoMemory>
-        requires fit { IsNoteTask task }
-        ensures done { IfOk result (λ r. (r ≡ answer notes self.old task) × (self.new ≡ effect notes self.old task)) }
+    fn run(&mut self, task: &Task) -> Result<Reply, NoMemory>
+        requires fit { IsNoteTask task.now }
+        ensures done { IfOk result (λ r. (r ≡ answer notes self.old task.now) × (self.new ≡ effect notes self.old task.now)) }
         ensures kept { OnErr result (self.new ≡ self.old) }
     {
         match task {
-            Task::Fetch(
-                Fetch {
-                    target: Target::Resource(key),
-                    query: _,
-                },
-            ) => self.fetch(&key.id),
-            Task::Fetch(_) => unreachable!(),
-            Task::Change {
-                operations,
-                form: _,
-            } => match first_text(operations.as_slice()) {
+            Task::Fetch(fetch) => match &fetch.target {
+                Target::Resource(key) => self.fetch(&key.id),
+                _ => unreachable!(),
+            },
+            Task::Change { operations, .. } => match first_text(operations.as_slice()) {
                 Some(text) => {
                     let text = text.copy(self.alloc)?;
                     self.create(text)
@@ -196,7 +190,7 @@ impl Desk for NoteDesk {
     ghost stands = { λ d _ w seen mine. StandsAlone note_meaning d w seen mine };
 
     fn answer(&mut self, task: Task) -> Result<Reply, DeskEnd> {
-        match self.run(task) {
+        match self.run(&task) {
             Ok(reply) => Ok(reply),
             Err(NoMemory) => Err(DeskEnd::NoMemory),
         }
