@@ -1,3 +1,4 @@
 pub mod Alone
+pub mod NotePlans
 pub mod NoteRows
 pub mod NoteTasks
