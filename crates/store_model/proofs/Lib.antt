@@ -7,6 +7,8 @@ mod Lawful
 mod LinkChanges
 mod Links
 mod Paging
+mod PlainReplies
+mod PlainResources
 mod Reaching
 mod Rows
 mod Runs

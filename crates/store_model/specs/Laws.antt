@@ -27,6 +27,9 @@ use Rattle.store_model.specs.Change.{Lids, refused, done}
 use Rattle.store_model.specs.Run.{Ran, operation_pointer, refusal_under}
 use Rattle.store_model.specs.Answer.{answer, effect}
 use Rattle.serde_json.specs.Data.{Data, null}
+use Rattle.serde_json.specs.Written.{compact_text}
+use Rattle.json_forms.specs.Plain.{IsPlain}
+use Rattle.http_messages.specs.declared.messages.Reply.{Reply}
 use Rattle.resource_schema.specs.declared.targets.Target.{Target}
 use Rattle.resource_schema.specs.declared.targets.Target.TheVariants as target
 use Rattle.task_forms.specs.declared.queries.Query.{Query}
@@ -225,3 +228,9 @@ ShowsResources (target.Resource key) = ⊤
 ShowsResources (target.Related key rel) = ⊤
 ShowsResources (target.Linkage key rel) = ⊥
 ShowsResources target.Operations = ⊤
+
+-- ---- replies
+
+-- A body that is empty, or the compact text of a value without floats, the members of whose objects stand in byte order.
+abbrev pub HasPlainBody : Reply → Type 0
+HasPlainBody reply = (reply.body ≡ []) ⊎ ((d : Data) × IsPlain d × (reply.body ≡ compact_text d))
