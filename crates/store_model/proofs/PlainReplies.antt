@@ -224,6 +224,9 @@ module _ (schema : Schema) (rules : IsTrue (is_schema schema)) where
 
   -- ---- replies
 
+  pub document_plain : (w : World) (fetch : Fetch) → IsValid schema w → HasOneCursor fetch.query.page → IfSome (document schema w fetch) IsPlain
+  document_plain w fetch valid one = target_plain w valid fetch.query one fetch.target
+
   pub reply_plain : (w : World) (t : Task) → IsValid schema w → IsFit schema t → HasPlainBody (answer schema w t)
   reply_plain w (task.Fetch fetch) valid fits = document_body (target_content schema fetch.target) (document schema w fetch) (target_plain w valid fetch.query (fit_cursor fetch.target fetch.query fits) fetch.target)
   reply_plain w (task.Change operations form) valid fits = run_body form operations (run schema form w operations) (run_plain form 0 w [] operations valid fits.0)

@@ -4,7 +4,8 @@ use Rattle.std.specs.Option.{option_map_or, option_and_then}
 use Rattle.std.specs.List.{list_any, filter, filter_map, range_with_len}
 use Rattle.std.specs.Ordering.{nat_cmp, then_cmp, on}
 use Rattle.std.specs.declared.cmp.Ordering.{Ordering}
-use Rattle.std.specs.Cmp.Lexicographic.{slice_cmp}
+use Rattle.std.specs.Cmp.{IsTotalOrder, nat_cmp_total, then_total, on_total}
+use Rattle.std.specs.Cmp.Lexicographic.{slice_cmp, nat_list_cmp_total}
 use Rattle.std.specs.FinMap.Entries.{find, put, where_key}
 use Rattle.ident_rules.specs.declared.key.Key.{Key}
 use Rattle.resource_schema.specs.declared.schema.Schema.{Schema}
@@ -37,6 +38,9 @@ use Rattle.resource_schema.specs.Kinds.{relationships_of}
 
 abbrev pub lid_cmp : ℕ × List ℕ → ℕ × List ℕ → Ordering
 lid_cmp = then_cmp (on (λ l. l.0) nat_cmp) (on (λ l. l.1) (slice_cmp nat_cmp))
+
+pub lid_cmp_total : IsTotalOrder lid_cmp
+lid_cmp_total = then_total (on_total (λ l. l.0) nat_cmp_total) (on_total (λ l. l.1) nat_list_cmp_total)
 
 abbrev pub Lids : Type 0
 Lids = List ((ℕ × List ℕ) × List ℕ)

@@ -140,6 +140,11 @@ AreApart rows = (a b : Row) → IsIn rows a → IsIn rows b → a.key.id ≡ b.k
 abbrev pub IsBefore : List SortKey → Row → Row → Type 0
 IsBefore sort a b = IsTrue (is_lt (place_cmp sort (place_of sort a) (place_of sort b)))
 
+-- the same rows, each before all that follow it
+pub record AreSorted (sort : List SortKey) (rows listed : List Row) : Type 0 where
+  pub in_order : Pairwise (IsBefore sort) listed
+  pub same_rows : (row : Row) → IsIn listed row ↔ IsIn rows row
+
 -- behind the one cursor, and before the other
 abbrev pub IsBetween : List SortKey → Option Place → Option Place → Place → Type 0
 IsBetween sort after before p = IfSome after (λ cursor. IsTrue (is_lt (place_cmp sort cursor p))) × IfSome before (λ cursor. IsTrue (is_lt (place_cmp sort p cursor)))
