@@ -1,12 +1,12 @@
 -- The body of each reply is empty, or the compact text of a plain value.
-use Rattle.std.proofs.Common.{◌≡◌, ℕ, ◌+◌, List, [], ◌∷◌, ◌++◌, Bool, true, false, refl, sym, ap, subst, Some, None, Option, inl, inr}
+use Rattle.std.proofs.Common.{◌≡◌, ℕ, ◌+◌, List, [], ◌∷◌, ◌++◌, Bool, true, false, refl, Some, None, Option, inl, inr}
 use Rattle.std.specs.Prelude.{◌⊎◌, ⊤, IsTrue, IfSome, MatchOption, map, option_map, slice_get, codes, Result, Ok, Err}
-use Rattle.std.specs.Option.{option_map_or, option_and_then}
+use Rattle.std.specs.Option.{option_and_then}
 use Rattle.std.specs.List.{AllByRecursion, list_any, zip}
-use Rattle.serde_json.specs.Data.{Data, null, string, array, object, item, no_items}
+use Rattle.serde_json.specs.Data.{Data, null, string, array, item, no_items}
 use Rattle.serde_json.specs.View.{items_of}
 use Rattle.serde_json.specs.Written.{compact_text}
-use Rattle.json_forms.specs.Plain.{IsPlain, ArePlain, MembersArePlain}
+use Rattle.json_forms.specs.Plain.{IsPlain}
 use Rattle.http_messages.specs.declared.messages.Content.{Content}
 use Rattle.ident_rules.specs.declared.key.Key.{Key}
 use Rattle.resource_schema.specs.declared.schema.Schema.{Schema}
@@ -41,7 +41,7 @@ use Rattle.store_model.specs.Change.{Lids, refused, done, outcome}
 use Rattle.store_model.specs.Run.{Ran, run, run_from, and_then, after_one, operation_pointer}
 use Rattle.store_model.specs.Pages.{page_of, rows_of, rows_at, first_item, last_item}
 use Rattle.store_model.specs.Included.{included}
-use Rattle.store_model.specs.Resource.{object_of, members_of, linkage, resource, collection_path, related_path}
+use Rattle.store_model.specs.Resource.{object_of, resource, collection_path, related_path}
 use Rattle.store_model.specs.Document.{resources, page_link, page_links, included_member, page_document, row_document, linked_document, related_document, relationship_name, linkage_document, target_document, document}
 use Rattle.store_model.specs.Answer.{target_content, document_reply, row_data, row_body, first_of_rows, is_create, result_data, results_data, results_reply, done_reply, run_reply, answer}
 use Rattle.store_model.specs.Laws.{HasOneCursor, HasPlainBody}

@@ -1,17 +1,17 @@
 -- Resource objects and linkage are plain JSON, whose members stand in byte order.
-use Rattle.std.proofs.Common.{◌≡◌, ℕ, ◌<◌, ◌^◌, List, [], ◌∷◌, ◌++◌, Bool, true, false, length, refl, sym, ap, subst, Some, None, Option, inl, inr, zero, suc, arith}
-use Rattle.std.specs.Prelude.{ℤ, pos, negsuc, ◌&&◌, IsTrue, IfSome, nat_lt, map, cond, codes, slice_get, ⊤}
+use Rattle.std.proofs.Common.{◌≡◌, ℕ, ◌<◌, ◌^◌, List, [], ◌∷◌, ◌++◌, Bool, true, false, length, refl, sym, subst, Some, None, zero, suc, arith}
+use Rattle.std.specs.Prelude.{ℤ, pos, negsuc, IsTrue, IfSome, map, cond, codes, slice_get}
 use Rattle.std.specs.Option.{option_map_or}
-use Rattle.std.specs.Ordering.{is_lt, nat_cmp}
+use Rattle.std.specs.Ordering.{is_lt}
 use Rattle.std.specs.declared.cmp.Ordering.{Ordering}
 use Rattle.std.specs.declared.cmp.Ordering.TheVariants.{Less, Equal, Greater}
-use Rattle.std.specs.Cmp.Lexicographic.{slice_cmp, nat_list_cmp_total}
+use Rattle.std.specs.Cmp.Lexicographic.{nat_list_cmp_total}
 use Rattle.std.specs.List.{AllByRecursion, AllZip, list_all, filter, zip}
 use Rattle.std.proofs.lemmas.Bool.Decides.{nat_tests}
-use Rattle.serde_json.specs.Data.{Data, null, string, array, object, item, no_items, Members, no_members, member}
+use Rattle.serde_json.specs.Data.{Data, string}
 use Rattle.serde_json.specs.View.{items_of}
 use Rattle.json_forms.specs.Order.{IsBefore, AreBehind, AreAscending}
-use Rattle.json_forms.specs.Plain.{IsPlainNumber, IsPlain, ArePlain, MembersArePlain}
+use Rattle.json_forms.specs.Plain.{IsPlain, ArePlain, MembersArePlain}
 use Rattle.ident_rules.specs.declared.key.Key.{Key}
 use Rattle.resource_schema.specs.declared.schema.Schema.{Schema}
 use Rattle.resource_schema.specs.declared.kinds.Kind.{Kind}
@@ -30,7 +30,7 @@ use Rattle.world_cells.specs.declared.rows.Link.TheVariants.{One, Many}
 use Rattle.world_cells.specs.World.{World}
 use Rattle.store_model.specs.Valid.{IsLinkOf, IsValidRow}
 use Rattle.store_model.specs.Cursor.{integer, value_data}
-use Rattle.store_model.specs.Resource.{members_of, object_of, member_unless_empty, identifier, linkage, resource_path, related_path, relationship_path, relationship_object, is_shown, attribute_members, relationship_members, resource, Fields}
+use Rattle.store_model.specs.Resource.{members_of, object_of, member_unless_empty, identifier, linkage, resource_path, relationship_object, is_shown, attribute_members, relationship_members, resource, Fields}
 use Rattle.store_model.specs.Laws.{Pairwise}
 use Rattle.store_model.proofs.Basics.{and_parts, all_in, in_all}
 

@@ -61,8 +61,7 @@ pub fn rows_are_the_worlds()
 /// 1.1, "Sorting").
 pub fn sorting_is_exact()
     ensures { (sort : List SortKey) (rows : List Row) → AreApart rows → AreSorted sort rows (sorted sort rows) }
-{
-}
+{}
 
 /// A page is in order, at most as long as was asked, has nothing that was not asked for and leaves nothing out while it
 /// has room, and says whether a row stands before it and behind it: of any rows that their ids tell apart, of a
@@ -87,5 +86,4 @@ pub fn replies_are_plain()
     ensures replies { (schema : List Kind) (w : World) (t : Task) → IsTrue (is_schema schema) → IsValid schema w → IsFit schema t → HasPlainBody (answer schema w t) }
     ensures documents { (schema : List Kind) (w : World) (fetch : Fetch) → IsTrue (is_schema schema) → IsValid schema w → HasOneCursor fetch.query.page → IfSome (document schema w fetch) IsPlain }
     ensures resources { (schema : List Kind) (w : World) (k : Key) (row : Row) (fields : Fields) → IsTrue (is_schema schema) → IsValidRow schema w k row → IsPlain (resource schema row fields) }
-{
-}
+{}
