@@ -12,6 +12,7 @@ mod PlainResources
 mod Reaching
 mod Rows
 mod Runs
+mod ShownLinks
 mod Sources
 mod Valid
 mod WorldRows

@@ -73,9 +73,9 @@ pub fn pages_are_exact()
 {}
 
 /// A document shows each resource once, all of them rows of one world, and each that is included is reached from a primary
-/// by links between resources that it shows ("Compound Documents"); its resource objects are those of these rows.
+/// by links that are shown, unless a field set leaves them out, between resources that it shows ("Compound Documents"); its resource objects are those of these rows.
 pub fn documents_are_fully_linked()
-    ensures linked { (schema : List Kind) (w : World) (fetch : Fetch) → IsValid schema w → HasOneCursor fetch.query.page → IsFullyLinked schema w (primary_rows schema w fetch.query fetch.target) (included_rows schema w fetch) }
+    ensures linked { (schema : List Kind) (w : World) (fetch : Fetch) → IsValid schema w → HasOneCursor fetch.query.page → IsFullyLinked schema w fetch.query.fields (primary_rows schema w fetch.query fetch.target) (included_rows schema w fetch) }
     ensures shown { (schema : List Kind) (w : World) (fetch : Fetch) → ShowsResources fetch.target → IfSome (document schema w fetch) (ShowsRows schema fetch.query (primary_rows schema w fetch.query fetch.target) (included_rows schema w fetch)) }
 {}
 
