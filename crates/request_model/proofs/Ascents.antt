@@ -1,18 +1,18 @@
 -- Texts in byte order: lists of them that strictly ascend, and places in such lists.
-use Rattle.std.specs.Prelude.{ℕ, ◌&&◌, Bool, true, false, List, [], ◌∷◌, map, filter, length, Option, Some, None, slice_get, nat_lt, zero, suc, ◌<◌, ◌≤◌, ◌+◌, IsTrue, ⊤}
+use Rattle.std.specs.Prelude.{ℕ, Bool, true, false, List, [], ◌∷◌, map, filter, Some, slice_get, zero, suc, ◌<◌, ⊤}
 use Rattle.std.specs.List.{AllByRecursion}
 use Rattle.std.specs.Ordering.{nat_cmp, is_lt}
 use Rattle.std.specs.declared.cmp.Ordering.{Ordering}
 use Rattle.std.specs.declared.cmp.Ordering.TheVariants.{Less, Equal, Greater}
-use Rattle.std.specs.Cmp.{IsTotalOrder, tied_itself}
+use Rattle.std.specs.Cmp.{tied_itself}
 use Rattle.std.specs.Cmp.Lexicographic.{slice_cmp, nat_list_cmp_total}
-use Rattle.std.proofs.Common.{◌≡◌, refl, ap, sym, ◌∙◌, arith, cond}
+use Rattle.std.proofs.Common.{◌≡◌, refl, sym, arith, cond}
 use Rattle.std.proofs.lemmas.Bool.{and_parts}
 use Rattle.serde_json.specs.Data.{Data, Members, no_members, member}
 use Rattle.json_forms.specs.Json.{members_list}
 use Rattle.json_forms.specs.Order.{IsBefore, AreBehind, AreAscending, IsInByteOrder, MembersAreInByteOrder}
 use Rattle.resource_schema.specs.SchemaRules.{are_rising}
-use Rattle.request_model.proofs.Zips.{all-into, all-at, all-filter}
+use Rattle.request_model.proofs.Zips.{all-into}
 
 -- each text stands before all texts behind it
 abbrev pub Ascends : List (List ℕ) → Type 0

@@ -102,3 +102,21 @@ empty_link = refl
 both_names : option_map (linkage blog 0 0 (codes "/data")) (json_of (codes "{\"type\":\"people\",\"id\":\"1\",\"lid\":\"p\"}")) ≡ Some (Err (at_pointer code.BadDocument (codes "/data")))
 unfolding requests_on_literals
 both_names = refl
+
+-- an id that no resource can have
+related_not_found : create 0 (codes "{\"type\":\"articles\",\"attributes\":{\"title\":\"T\"},\"relationships\":{\"author\":{\"data\":{\"type\":\"people\",\"id\":\"a b\"}}}}") ≡ refused code.RelatedNotFound (codes "/data/relationships/author/data/id")
+unfolding requests_on_literals
+related_not_found = refl
+
+no_object : create 0 (codes "[]") ≡ refused code.BadDocument (codes "/data")
+unfolding requests_on_literals
+no_object = refl
+
+attributes_no_object : create 0 (codes "{\"type\":\"articles\",\"attributes\":[]}") ≡ refused code.BadDocument (codes "/data/attributes")
+unfolding requests_on_literals
+attributes_no_object = refl
+
+-- a linkage without `data`
+no_linkage : create 0 (codes "{\"type\":\"articles\",\"relationships\":{\"author\":{}}}") ≡ refused code.BadDocument (codes "/data/relationships/author")
+unfolding requests_on_literals
+no_linkage = refl

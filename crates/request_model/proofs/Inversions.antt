@@ -1,8 +1,8 @@
 -- What a reading that succeeded tells of its parts.
-use Rattle.std.specs.Prelude.{ℕ, ◌&&◌, Bool, true, false, not, if◌then◌else◌, List, [], ◌∷◌, map, Option, Some, None, Result, Ok, Err, option_map, option_and_then, ⊤}
-use Rattle.std.specs.Option.{ok_or, option_or}
-use Rattle.std.specs.List.{AllZip, enumerate_from}
-use Rattle.std.proofs.Common.{◌≡◌, refl, ap, sym, ◌∙◌}
+use Rattle.std.specs.Prelude.{Bool, true, false, not, if◌then◌else◌, List, [], ◌∷◌, map, Option, Some, None, Result, Ok, Err, option_map, option_and_then, ⊤}
+use Rattle.std.specs.Option.{ok_or}
+use Rattle.std.specs.List.{AllZip}
+use Rattle.std.proofs.Common.{◌≡◌, refl, sym}
 use Rattle.request_model.specs.Words.{some_if, all_some, result_map, all_ok}
 use Rattle.request_model.specs.Results.{◌>>=◌, ◌>>◌, err_if}
 use Rattle.request_model.specs.Options as option
@@ -24,6 +24,11 @@ map-Ok f (Err r) y e = cc e
 pub err_if-Ok : {E : Type 0} (b : Bool) (r : E) (t : ⊤) → err_if b r ≡ Ok t → b ≡ false
 err_if-Ok true r t e = cc e
 err_if-Ok false r t e = refl
+
+-- a test that is negated
+pub negated : (b : Bool) → not b ≡ false → b ≡ true
+negated true e = refl
+negated false e = cc e
 
 pub ok_or-Ok : {A E : Type 0} (o : Option A) (r : E) (x : A) → ok_or o r ≡ Ok x → o ≡ Some x
 ok_or-Ok None r x e = cc e

@@ -13,3 +13,13 @@ pub mod Zips
 pub mod Ascents
 pub mod Ordered
 pub mod SchemaFileLemmas
+pub mod LinkageFits
+pub mod FieldFits
+pub mod DocumentFits
+pub mod TargetFits
+pub mod ListFits
+pub mod CursorFits
+pub mod QueryFits
+pub mod PlanFits
+pub mod Sources
+pub mod CursorReadBack

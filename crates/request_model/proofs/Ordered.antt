@@ -1,15 +1,15 @@
 -- Parts of a value whose names stand in byte order, and of one whose objects are read.
-use Rattle.std.specs.Prelude.{ℕ, List, map, Option, Some, None, IfSome, ⊤}
+use Rattle.std.specs.Prelude.{ℕ, List, map, Option, Some, None, IfSome}
 use Rattle.std.specs.List.{AllByRecursion}
 use Rattle.std.specs.Ordering.{nat_cmp, match_ordering}
 use Rattle.std.specs.declared.cmp.Ordering.{Ordering}
 use Rattle.std.specs.declared.cmp.Ordering.TheVariants.{Less, Equal, Greater}
 use Rattle.std.specs.Cmp.Lexicographic.{slice_cmp}
-use Rattle.std.proofs.Common.{◌≡◌, refl, sym, subst}
+use Rattle.std.proofs.Common.{◌≡◌, sym, subst}
 use Rattle.serde_json.specs.Data.{Data, null, boolean, number, string, array, object, Items, no_items, item, Members, no_members, member}
 use Rattle.serde_json.specs.Find.{get, get_member, as_object, as_array}
 use Rattle.json_forms.specs.Json.{items_list, members_list}
-use Rattle.json_forms.specs.Order.{IsInByteOrder, AreInByteOrder, AreAscending, MembersAreInByteOrder}
+use Rattle.json_forms.specs.Order.{IsInByteOrder, AreInByteOrder, MembersAreInByteOrder}
 use Rattle.request_model.proofs.Ascents.{Ascends, name_of, members-ascend, members-in_order}
 
 pub as_object-is : (d : Data) (ms : Members) → as_object d ≡ Some ms → d ≡ object ms

@@ -107,3 +107,14 @@ fewer_comments : planned blog (message (codes "DELETE") (codes "/articles/1/rela
     ≡ Run (task.Change (DropLinks (record { named = named.Id (record { kind = 0; id = codes "1" }); place = stands.Plain }) 1 (record { named = named.Id (record { kind = 1; id = codes "3" }); index = Some 0 } ∷ []) ∷ []) reply_form.Empty)
 unfolding requests_on_literals
 fewer_comments = refl
+
+-- a coding of the content
+with_coding : planned notes (message (codes "POST") (codes "/notes") (json_api ∷ field (codes "content-encoding") (codes "gzip") ∷ []) (codes "{"))
+    ≡ fixed 415 allow.Nothing (codes "{\"errors\":[{\"code\":\"unsupported-media-type\",\"source\":{\"header\":\"Content-Encoding\"},\"status\":\"415\",\"title\":\"Unsupported media type\"}]}")
+unfolding requests_on_literals
+with_coding = refl
+
+no_data : planned notes (message (codes "POST") (codes "/notes") (json_api ∷ []) (codes "{}"))
+    ≡ fixed 400 allow.Nothing (codes "{\"errors\":[{\"code\":\"bad-document\",\"source\":{\"pointer\":\"\"},\"status\":\"400\",\"title\":\"Malformed document\"}]}")
+unfolding requests_on_literals
+no_data = refl

@@ -109,3 +109,12 @@ empty_include = refl
 empty_field_set : query_of blog article (codes "fields[articles]=&include=author") ≡ Ok (record no_query { pairs = (codes "fields[articles]", []) ∷ (codes "include", codes "author") ∷ []; include = Some (record { rels = 0 ∷ [] } ∷ []); fields = (0, []) ∷ [] })
 unfolding requests_on_literals
 empty_field_set = refl
+
+-- the name of a family without its end is no member of it
+half_family : articles (codes "fields[articles=title") ≡ refused code.UnknownParameter (codes "fields[articles")
+unfolding requests_on_literals
+half_family = refl
+
+empty_family : articles (codes "fields[]=title") ≡ refused code.BadFields (codes "fields[]")
+unfolding requests_on_literals
+empty_family = refl

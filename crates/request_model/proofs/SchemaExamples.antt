@@ -1,11 +1,12 @@
 -- Schema files, worked.
-use Rattle.std.specs.Prelude.{◌≡◌, ℕ, List, true, Result, Ok, Err, codes, refl}
+use Rattle.std.specs.Prelude.{◌≡◌, ℕ, zero, suc, List, true, Result, Ok, Err, codes, refl}
+use Rattle.serde_json.specs.Data.{null, object, Members, no_members, member}
 use Rattle.resource_schema.specs.declared.schema.Schema.{Schema}
 use Rattle.resource_schema.specs.declared.faults.SchemaFault.{SchemaFault}
 use Rattle.resource_schema.specs.declared.faults.Why.{Why}
 use Rattle.resource_schema.specs.declared.faults.Why.TheVariants as why
 use Rattle.resource_schema.specs.SchemaRules.{is_schema}
-use Rattle.request_model.specs.SchemaFile.{schema_of_text, fault}
+use Rattle.request_model.specs.SchemaFile.{schema_of, schema_of_text, fault}
 use Rattle.resource_schema.specs.Kinds.{notes}
 use Rattle.request_model.proofs.OnLiterals.{requests_on_literals}
 use Rattle.request_model.proofs.Blog.{blog, blog_text}
@@ -59,3 +60,33 @@ notes_keeps = refl
 
 blog_keeps : is_schema blog ≡ true
 blog_keeps = refl
+
+reserved_kind : schema_of_text (codes "{\"types\":{\"operations\":{}}}") ≡ faulty (codes "/types/operations") why.Reserved
+unfolding requests_on_literals
+reserved_kind = refl
+
+reserved_field : schema_of_text (codes "{\"types\":{\"a\":{\"attributes\":{\"id\":{\"type\":\"int\"}}}}}") ≡ faulty (codes "/types/a/attributes/id") why.Reserved
+unfolding requests_on_literals
+reserved_field = refl
+
+no_flag : schema_of_text (codes "{\"types\":{\"a\":{\"client-ids\":1}}}") ≡ faulty (codes "/types/a/client-ids") why.BadFlag
+unfolding requests_on_literals
+no_flag = refl
+
+unknown_kind : schema_of_text (codes "{\"types\":{\"a\":{\"relationships\":{\"x\":{\"kind\":\"two\",\"target\":\"a\"}}}}}") ≡ faulty (codes "/types/a/relationships/x/kind") why.BadKind
+unfolding requests_on_literals
+unknown_kind = refl
+
+-- so many members of an object
+members : ℕ → Members
+members zero = no_members
+members (suc n) = member (codes "a") null (members n)
+
+too_many_types : schema_of (object (member (codes "types") (object (members 65)) no_members)) ≡ faulty (codes "/types") why.Limit
+unfolding requests_on_literals members
+too_many_types = refl
+
+-- 64 are not too many: the first of these is no object
+most_types : schema_of (object (member (codes "types") (object (members 64)) no_members)) ≡ faulty (codes "/types/a") why.NotObject
+unfolding requests_on_literals members
+most_types = refl

@@ -1,14 +1,14 @@
 -- What is read of a schema file keeps the rules of schemas.
-use Rattle.std.specs.Prelude.{ℕ, ◌==◌, ◌&&◌, Bool, true, false, not, nat_lt, nat_le, List, [], ◌∷◌, codes, length, map, Option, Some, None, Result, Ok, Err, IfSome, option_map, option_and_then, ⊤, ◌<◌, ◌≤◌}
+use Rattle.std.specs.Prelude.{ℕ, ◌==◌, ◌&&◌, Bool, true, false, not, nat_lt, nat_le, List, [], ◌∷◌, codes, length, map, Option, Some, None, Ok, IfSome, option_map, option_and_then, ⊤, ◌<◌}
 use Rattle.std.specs.Option.{ok_or, option_map_or}
 use Rattle.std.specs.List.{position, list_all, AllZip, AllByRecursion}
 use Rattle.std.specs.Str.{bytes_eq}
-use Rattle.std.proofs.Common.{◌≡◌, refl, sym, ap, ◌∙◌, arith}
+use Rattle.std.proofs.Common.{◌≡◌, refl, sym, ap, ◌∙◌, arith, subst}
 use Rattle.std.proofs.lemmas.Bool.Decides.{nat_tests}
-use Rattle.serde_json.specs.Data.{Data, Members}
-use Rattle.serde_json.specs.Find.{get, as_object, as_bool}
+use Rattle.serde_json.specs.Data.{Data}
+use Rattle.serde_json.specs.Find.{get, as_object}
 use Rattle.ident_rules.specs.Name.{is_name}
-use Rattle.json_forms.specs.Json.{json_of, members_list, text_at}
+use Rattle.json_forms.specs.Json.{members_list, text_at}
 use Rattle.json_forms.specs.Order.{IsInByteOrder}
 use Rattle.json_forms.specs.Pointer.{◌//◌}
 use Rattle.resource_schema.specs.declared.schema.Schema.{Schema}
@@ -19,15 +19,15 @@ use Rattle.resource_schema.specs.declared.values.Form.{Form}
 use Rattle.resource_schema.specs.declared.values.AttrValue.{AttrValue}
 use Rattle.resource_schema.specs.declared.faults.Why.TheVariants as why
 use Rattle.resource_schema.specs.Forms.{has_form}
-use Rattle.resource_schema.specs.SchemaRules.{is_schema, is_kind, is_attribute, is_relationship, is_field_name, is_one_of, are_rising, reserved_fields, reserved_kinds}
+use Rattle.resource_schema.specs.SchemaRules.{is_schema, is_kind, is_attribute, is_relationship, is_one_of, are_rising, reserved_fields, reserved_kinds}
 use Rattle.request_model.specs.Words.{all_ok}
 use Rattle.request_model.specs.Results.{err_if}
 use Rattle.request_model.specs.Values.{value_from, plain_value}
 use Rattle.request_model.specs.SchemaFile.{form_of, many_of, fault, object_at, fields_at, flag_at, name_fault, default_at, attribute_from, relationship_from, kind_from, schema_of}
-use Rattle.request_model.proofs.Inversions.{bind-Ok, then-Ok, map-Ok, err_if-Ok, ok_or-Ok, and_then-Some, map-Some, some_if-Some, all_ok-zip}
+use Rattle.request_model.proofs.Inversions.{bind-Ok, then-Ok, map-Ok, err_if-Ok, negated, ok_or-Ok, and_then-Some, map-Some, some_if-Some, all_ok-zip}
 use Rattle.request_model.proofs.Zips.{zip-length, zip-right, zip-same, all-always, all-list_all, position-found}
 use Rattle.request_model.proofs.Ascents.{Ascends, name_of, test-from_ascends}
-use Rattle.request_model.proofs.Ordered.{object-ordered, found-ordered, get-ordered}
+use Rattle.request_model.proofs.Ordered.{object-ordered, get-ordered}
 
 -- ---- parts
 
@@ -41,10 +41,6 @@ value_from-form f nullable d v e =
 both : (a b : Bool) → a ≡ true → b ≡ true → (a && b) ≡ true
 both true b p q = q
 both false b p q = p
-
-negated : (b : Bool) → not b ≡ false → b ≡ true
-negated true e = refl
-negated false e = cc e
 
 -- a name that has no fault
 pub name-parts : (reserved : List (List ℕ)) (place name : List ℕ) (t : ⊤) → name_fault reserved place name ≡ Ok t → (is_name name ≡ true) × (not (is_one_of reserved name) ≡ true)
@@ -92,7 +88,7 @@ attribute_from-keeps group m a e =
     let t = bind-Ok (default_at (group // m.0 // codes "default") r.0 s.0 (get (codes "default") m.1)) _ a s.2 in
     let named = name-parts reserved_fields (group // m.0) m.0 p.0 p.1 in
     let same : record { name = m.0; form = r.0; nullable = s.0; default = t.0 } ≡ a = cc t.2 in
-    rw (sym same) (refl, both _ _ (both _ _ named.0 named.1) (default_at-form (group // m.0 // codes "default") r.0 s.0 (get (codes "default") m.1) t.0 t.1))
+    subst (λ (a : Attribute). (a.name ≡ m.0) × (is_attribute a ≡ true)) same (refl, both _ _ (both _ _ named.0 named.1) (default_at-form (group // m.0 // codes "default") r.0 s.0 (get (codes "default") m.1) t.0 t.1))
 
 -- ---- relationships
 
@@ -109,9 +105,9 @@ relationship_from-keeps kinds attributes group m r e =
     let place = and_then-Some (λ t. position (bytes_eq t) kinds) (text_at (codes "target") m.1) t.0 (ok_or-Ok _ _ t.0 t.1) in
     let within = (position-found (bytes_eq place.0) kinds t.0 place.2).3 in
     let same : record { name = m.0; many = s.0; target = t.0 } ≡ r = cc t.2 in
-    rw (sym same) (refl, both _ _ (both _ _ (both _ _ named.0 named.1) free) (below t.0 (length kinds) within)) where
-  below : (n k : ℕ) → n < k → nat_lt n k ≡ true
-  below n k l = grind (arith, nat_tests, l)
+    subst (λ (r : Relationship). (r.name ≡ m.0) × (is_relationship (length kinds) attributes r ≡ true)) same (refl, both _ _ (both _ _ (both _ _ named.0 named.1) free) (below t.0 (length kinds) within)) where
+      below : (n k : ℕ) → n < k → nat_lt n k ≡ true
+      below n k l = grind (arith, nat_tests, l)
 
 -- ---- types
 
@@ -120,19 +116,21 @@ attributes-keep : (group : List ℕ) (ms : List (List ℕ × Data)) (xs : List A
     → (length xs ≡ length ms) × (are_rising (map (λ a. a.name) xs) ≡ true) × (list_all is_attribute xs ≡ true)
 attributes-keep group ms xs ascend e =
     let z = all_ok-zip (attribute_from group) ms xs e in
-    let names : map (λ (a : Attribute). a.name) xs ≡ map name_of ms = zip-same _ name_of (λ a. a.name) ms xs (λ m a q. (attribute_from-keeps group m a q).0) z in
-    (zip-length _ ms xs z,
+    let names : map (λ (a : Attribute). a.name) xs ≡ map name_of ms = zip-same _ name_of (λ a. a.name) ms xs (λ m a q. (attribute_from-keeps group m a q).0) z in (
+      zip-length _ ms xs z,
       rw names (test-from_ascends _ ascend),
-      all-list_all is_attribute xs (zip-right (λ m. ⊤) _ (λ a. is_attribute a ≡ true) ms xs (λ m a t q. (attribute_from-keeps group m a q).1) (all-always (λ m. ⊤) ms (λ m. tt)) z))
+      all-list_all is_attribute xs (zip-right (λ m. ⊤) _ (λ a. is_attribute a ≡ true) ms xs (λ m a t q. (attribute_from-keeps group m a q).1) (all-always (λ m. ⊤) ms (λ m. tt)) z),
+    )
 
 relationships-keep : (kinds attributes : List (List ℕ)) (group : List ℕ) (ms : List (List ℕ × Data)) (xs : List Relationship) → Ascends (map name_of ms) → all_ok (map (relationship_from kinds attributes group) ms) ≡ Ok xs
     → (length xs ≡ length ms) × (are_rising (map (λ r. r.name) xs) ≡ true) × (list_all (is_relationship (length kinds) attributes) xs ≡ true)
 relationships-keep kinds attributes group ms xs ascend e =
     let z = all_ok-zip (relationship_from kinds attributes group) ms xs e in
-    let names : map (λ (r : Relationship). r.name) xs ≡ map name_of ms = zip-same _ name_of (λ r. r.name) ms xs (λ m r q. (relationship_from-keeps kinds attributes group m r q).0) z in
-    (zip-length _ ms xs z,
+    let names : map (λ (r : Relationship). r.name) xs ≡ map name_of ms = zip-same _ name_of (λ r. r.name) ms xs (λ m r q. (relationship_from-keeps kinds attributes group m r q).0) z in (
+      zip-length _ ms xs z,
       rw names (test-from_ascends _ ascend),
-      all-list_all (is_relationship (length kinds) attributes) xs (zip-right (λ m. ⊤) _ (λ r. is_relationship (length kinds) attributes r ≡ true) ms xs (λ m r t q. (relationship_from-keeps kinds attributes group m r q).1) (all-always (λ m. ⊤) ms (λ m. tt)) z))
+      all-list_all (is_relationship (length kinds) attributes) xs (zip-right (λ m. ⊤) _ (λ r. is_relationship (length kinds) attributes r ≡ true) ms xs (λ m r t q. (relationship_from-keeps kinds attributes group m r q).1) (all-always (λ m. ⊤) ms (λ m. tt)) z),
+    )
 
 kind_from-keeps : (kinds : List (List ℕ)) (m : List ℕ × Data) (k : Kind) → IsInByteOrder m.1 → kind_from kinds m ≡ Ok k → (k.name ≡ m.0) × (is_kind (length kinds) k ≡ true)
 kind_from-keeps kinds m k order e =
@@ -152,7 +150,7 @@ kind_from-keeps kinds m k order e =
     let same : record { name = m.0; client_ids = r.0; attributes = t.0; relationships = v.0 } ≡ k = cc v.2 in
     let few_attributes : nat_le (length t.0) 64 ≡ true = rw attributes.0 own.1 in
     let few_relationships : nat_le (length v.0) 32 ≡ true = rw relationships.0 linked.1 in
-    rw (sym same) (refl, both _ _ (both _ _ (both _ _ (both _ _ (both _ _ (both _ _ (both _ _ named.0 named.1) few_attributes) few_relationships) attributes.1) relationships.1) attributes.2) relationships.2)
+    subst (λ (k : Kind). (k.name ≡ m.0) × (is_kind (length kinds) k ≡ true)) same (refl, both _ _ (both _ _ (both _ _ (both _ _ (both _ _ (both _ _ (both _ _ named.0 named.1) few_attributes) few_relationships) attributes.1) relationships.1) attributes.2) relationships.2)
 
 -- ---- the schema
 
@@ -173,15 +171,15 @@ kinds-keep ms schema ascend order some limit e =
     let rising : are_rising (map (λ (k : Kind). k.name) schema) ≡ true = rw names (test-from_ascends (map name_of ms) ascend) in
     let all : AllByRecursion (λ k. is_kind (length schema) k ≡ true) schema = rw (sym count) each in
     both _ _ (both _ _ (both _ _ some_kind few_kinds) rising) (all-list_all (is_kind (length schema)) schema all) where
-  length-same : {X : Type 0} (xs : List (List ℕ × X)) → length (map (λ x. x.0) xs) ≡ length xs
-  length-same [] = refl
-  length-same (x ∷ xs) = let rest = length-same xs in omega (arith, rest)
+      length-same : {X : Type 0} (xs : List (List ℕ × X)) → length (map (λ x. x.0) xs) ≡ length xs
+      length-same [] = refl
+      length-same (x ∷ xs) = let rest = length-same xs in omega (arith, rest)
 
-  zip-names : (ns : List (List ℕ × Data)) (schema : Schema) → AllByRecursion (λ m. IsInByteOrder m.1) ns → AllZip (λ m k. kind_from (map (λ t. t.0) ms) m ≡ Ok k) ns schema → map (λ (k : Kind). k.name) schema ≡ map name_of ns
-  zip-names [] [] o z = refl
-  zip-names [] (k ∷ ks) o z = absurd z
-  zip-names (m ∷ ns) [] o z = absurd z
-  zip-names (m ∷ ns) (k ∷ ks) o z = let rest = zip-names ns ks o.1 z.1 in let first = (kind_from-keeps (map (λ t. t.0) ms) m k o.0 z.0).0 in cc (first, rest)
+      zip-names : (ns : List (List ℕ × Data)) (schema : Schema) → AllByRecursion (λ m. IsInByteOrder m.1) ns → AllZip (λ m k. kind_from (map (λ t. t.0) ms) m ≡ Ok k) ns schema → map (λ (k : Kind). k.name) schema ≡ map name_of ns
+      zip-names [] [] o z = refl
+      zip-names [] (k ∷ ks) o z = absurd z
+      zip-names (m ∷ ns) [] o z = absurd z
+      zip-names (m ∷ ns) (k ∷ ks) o z = let rest = zip-names ns ks o.1 z.1 in let first = (kind_from-keeps (map (λ t. t.0) ms) m k o.0 z.0).0 in cc (first, rest)
 
 -- a schema that was read keeps the rules
 pub schema_of-is_schema : (d : Data) (schema : Schema) → schema_of d ≡ Ok schema → IsInByteOrder d → is_schema schema ≡ true

@@ -1,10 +1,12 @@
 -- Targets, worked.
-use Rattle.std.specs.Prelude.{◌≡◌, [], false, Some, None, codes, refl}
+use Rattle.std.specs.Prelude.{◌≡◌, [], false, Some, None, codes, refl, ℕ, List, ◌∷◌, ◌++◌}
 use Rattle.request_model.proofs.OnLiterals.{requests_on_literals}
 use Rattle.resource_schema.specs.declared.targets.Target.TheVariants as target
+use Rattle.http_messages.specs.declared.messages.Allow.{Allow}
 use Rattle.http_messages.specs.declared.messages.Allow.TheVariants as allow
+use Rattle.http_messages.specs.ReplyText as text_of
 use Rattle.request_model.specs.declared.forms.Need.TheVariants as need
-use Rattle.request_model.specs.Targets.{split_target, target_of_path, allow_of, methods, allow_text, allows, need_of}
+use Rattle.request_model.specs.Targets.{split_target, target_of_path, allow_of, methods, allows, need_of}
 use Rattle.request_model.proofs.Blog.{blog}
 
 in_origin_form : split_target (codes "/notes?page[size]=2?") ≡ Some (codes "/notes", codes "page[size]=2?")
@@ -52,7 +54,24 @@ a_list : target_of_path blog (codes "/operations") ≡ Some target.Operations
 unfolding requests_on_literals
 a_list = refl
 
-to_one_methods : allow_text (methods (allow_of blog (target.Linkage (record { kind = 0; id = codes "1" }) 0))) ≡ codes "GET, HEAD, PATCH"
+-- words with a comma and a space between them
+joined : List (List ℕ) → List ℕ
+joined [] = []
+joined (m ∷ []) = m
+joined (m ∷ n ∷ ms) = m ++ codes ", " ++ joined (n ∷ ms)
+
+-- what the field Allow says is the list of the methods that are answered (RFC 9110, section 10.2.1)
+allow_names_methods : (a : Allow) → text_of.methods a ≡ joined (methods a)
+unfolding joined
+allow_names_methods allow.Nothing = refl
+allow_names_methods allow.Collection = refl
+allow_names_methods allow.Resource = refl
+allow_names_methods allow.Related = refl
+allow_names_methods allow.One = refl
+allow_names_methods allow.Many = refl
+allow_names_methods allow.Operations = refl
+
+to_one_methods : methods (allow_of blog (target.Linkage (record { kind = 0; id = codes "1" }) 0)) ≡ codes "GET" ∷ codes "HEAD" ∷ codes "PATCH" ∷ []
 to_one_methods = refl
 
 unknown_method : allows allow.Resource (codes "PUT") ≡ false

@@ -1,7 +1,7 @@
 -- Lists that go together, and lists each of whose items is of a kind.
-use Rattle.std.specs.Prelude.{ℕ, ◌&&◌, Bool, true, false, List, [], ◌∷◌, map, filter, length, Option, Some, None, slice_get, nat_lt, zero, suc, ◌<◌, ◌≤◌, ◌+◌, IsTrue, ⊤}
-use Rattle.std.specs.List.{AllZip, AllByRecursion, list_all, list_any, position, enumerate_from}
-use Rattle.std.proofs.Common.{◌≡◌, refl, ap, sym, ◌∙◌, arith, get_or, cond}
+use Rattle.std.specs.Prelude.{ℕ, Bool, true, false, List, [], ◌∷◌, map, filter, length, Some, slice_get, zero, suc, ◌<◌}
+use Rattle.std.specs.List.{AllZip, AllByRecursion, list_all, position}
+use Rattle.std.proofs.Common.{◌≡◌, refl, sym, arith, get_or, cond}
 use Rattle.std.proofs.lemmas.Option.{slice_get-get_or}
 use Rattle.std.proofs.lemmas.List.Quantifiers.{position-Some}
 

@@ -1,5 +1,5 @@
 -- The plan of a request: its reply, where its bytes decide it, or a task for the store.
-use Rattle.std.specs.Prelude.{ℕ, Bool, not, if◌then◌else◌, List, [], ◌∷◌, codes, Option, Some, None, Result, Ok, Err, ⊤}
+use Rattle.std.specs.Prelude.{ℕ, Bool, true, false, not, if◌then◌else◌, List, [], ◌∷◌, codes, Option, Some, None, Result, Ok, Err, ⊤}
 use Rattle.std.specs.Option.{ok_or}
 use Rattle.std.specs.Str.{bytes_eq}
 use Rattle.serde_json.specs.Data.{Data}
@@ -129,6 +129,11 @@ task_of schema m t query = do
   judged (content m.fields (need_of (allow_of schema t) m.method))
   err_if (not (acceptable m.fields)) (at_header code.NotAcceptable (codes "Accept"))
   if is_fetch m.method then fetch_of schema t query else change_without_query schema m.method m.body t query
+
+-- the request is a list of operations
+abbrev pub is_list : Target → Bool
+is_list target.Operations = true
+is_list _ = false
 
 -- a refusal as a reply
 abbrev pub or_reply : {A : Type 0} → Result A Refusal → Result A Reply

@@ -1,5 +1,5 @@
 -- The schema that a JSON value describes, or its first fault (of this project; names as in JSON:API 1.1, "Member Names" and "Fields").
-use Rattle.std.specs.Prelude.{ℕ, ◌==◌, Bool, true, false, not, nat_lt, if◌then◌else◌, List, [], ◌∷◌, codes, length, map, Option, Some, None, Result, Ok, option_map, option_and_then, ⊤}
+use Rattle.std.specs.Prelude.{ℕ, ◌==◌, Bool, true, false, not, nat_lt, if◌then◌else◌, List, [], codes, length, map, Option, Some, None, Result, Ok, option_map, option_and_then, ⊤}
 use Rattle.std.specs.Option.{ok_or}
 use Rattle.std.specs.List.{position}
 use Rattle.std.specs.Str.{bytes_eq}

@@ -1,5 +1,5 @@
 -- Request targets (RFC 9112, section 3.2), and the URLs of a schema (of this project, within JSON:API 1.1, "Fetching Data").
-use Rattle.std.specs.Prelude.{ℕ, ◌||◌, ◌==◌, Bool, if◌then◌else◌, List, [], ◌∷◌, ◌++◌, codes, length, drop, Option, Some, None, option_map}
+use Rattle.std.specs.Prelude.{ℕ, ◌<◌, ⊤, ◌||◌, ◌==◌, Bool, if◌then◌else◌, List, [], ◌∷◌, codes, length, drop, Option, Some, None, option_map}
 use Rattle.std.specs.Option.{option_or}
 use Rattle.std.specs.List.{position_or_len}
 use Rattle.std.specs.Str.{bytes_eq, is_utf8}
@@ -12,10 +12,11 @@ use Rattle.http_messages.specs.declared.messages.Allow.{Allow}
 use Rattle.http_messages.specs.declared.messages.Allow.TheVariants as allow
 use Rattle.request_model.specs.declared.forms.Need.{Need}
 use Rattle.request_model.specs.declared.forms.Need.TheVariants as need
+use Rattle.task_forms.specs.Fit.{IsKnownKey}
 use Rattle.request_model.specs.Words.{parts_at, halves_at, slash, question_mark, begins, begins_in_any_case, some_if}
 use Rattle.resource_schema.specs.SchemaRules.{is_one_of}
 use Rattle.request_model.specs.Options.{◌>>=◌}
-use Rattle.resource_schema.specs.Kinds.{number_of_kind, relationship_of, is_many}
+use Rattle.resource_schema.specs.Kinds.{number_of_kind, relationship_of, relationships_of, is_many}
 use Rattle.ident_rules.specs.Id.{is_id}
 
 -- ---- a request target as path and query
@@ -94,6 +95,14 @@ target_of_pieces schema _ = None
 abbrev pub target_of_path : Schema → List ℕ → Option Target
 target_of_path schema path = target_of_pieces schema (parts_at slash path)
 
+-- the numbers of a target are those of the schema, and its id keeps the rule
+abbrev pub IsKnownTarget : Schema → Target → Type 0
+IsKnownTarget schema (target.Collection kind) = kind < length schema
+IsKnownTarget schema (target.Resource key) = IsKnownKey schema key
+IsKnownTarget schema (target.Related key rel) = IsKnownKey schema key × (rel < length (relationships_of schema key.kind))
+IsKnownTarget schema (target.Linkage key rel) = IsKnownKey schema key × (rel < length (relationships_of schema key.kind))
+IsKnownTarget schema target.Operations = ⊤
+
 -- ---- methods
 
 -- what a target allows (RFC 9110, section 10.2.1)
@@ -123,12 +132,6 @@ body_methods allow.Related = []
 body_methods allow.One = codes "PATCH" ∷ []
 body_methods allow.Many = codes "PATCH" ∷ codes "POST" ∷ codes "DELETE" ∷ []
 body_methods allow.Operations = codes "POST" ∷ []
-
--- the value of the field Allow
-abbrev pub allow_text : List (List ℕ) → List ℕ
-allow_text [] = []
-allow_text (m ∷ []) = m
-allow_text (m ∷ n ∷ ms) = m ++ codes ", " ++ allow_text (n ∷ ms)
 
 -- the target answers this method
 abbrev pub allows : Allow → List ℕ → Bool

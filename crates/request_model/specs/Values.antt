@@ -1,17 +1,22 @@
 -- Values of attributes as JSON (RFC 8259, section 3; the forms are of this project).
-use Rattle.std.specs.Prelude.{Bool, Option, Some, None, option_map, option_and_then}
-use Rattle.serde_json.specs.Data.{Data, null, boolean, number, string, array, object}
-use Rattle.serde_json.specs.Find.{of_integer, as_i64}
+use Rattle.std.specs.Prelude.{ℤ, pos, negsuc, Bool, Option, Some, None, option_map, option_and_then}
+use Rattle.serde_json.specs.Data.{unsigned, negative, Data, null, boolean, number, string, array, object}
+use Rattle.serde_json.specs.Find.{as_i64}
 use Rattle.resource_schema.specs.declared.values.Form.{Form}
 use Rattle.resource_schema.specs.declared.values.AttrValue.{AttrValue}
 use Rattle.resource_schema.specs.declared.values.AttrValue.TheVariants as value
 use Rattle.resource_schema.specs.Forms.{has_form}
 use Rattle.request_model.specs.Words.{some_if}
 
+-- an integer, as it is kept
+abbrev pub integer : ℤ → Data
+integer (pos n) = number (unsigned n)
+integer (negsuc n) = number (negative (negsuc n))
+
 -- the value that stands for this one in a document
 abbrev pub value_data : AttrValue → Data
 value_data value.Null = null
-value_data (value.Int z) = number (of_integer z)
+value_data (value.Int z) = integer z
 value_data (value.Text t) = string t
 value_data (value.Bool b) = boolean b
 

@@ -1,0 +1,69 @@
+-- What was seen over several reads.
+use Rattle.std.proofs.Common.{◌≡◌, ℕ, ◌<◌, List, [], ◌++◌, length, refl, sym, ap, subst, ◌∙◌, arith, append_assoc, append-nil, take_all, length-append}
+use Rattle.std.specs.declared.option.Option.{Option}
+use Rattle.std.specs.Prelude.{IfSome, None, Some}
+use Rattle.outer_ends.specs.StreamLaws.{appends_none, appends_then, consumes_none, consumes_then}
+use Rattle.http_model.specs.Heads.{front, head_limit, IsOpen}
+use Rattle.http_model.specs.Rests.{IsBetween}
+use Rattle.http_model.specs.Laws.{ReadStays}
+use Rattle.http_framing.specs.declared.heads.HeadEnd.{HeadEnd}
+use Rattle.http_framing.specs.declared.heads.HeadEnd.TheVariants as head
+use Rattle.http_framing.specs.Fills.{Adds}
+use Rattle.http_framing.specs.Taken.{TakesHead, VerdictOn, HeadOfRest}
+
+pub adds_none : (old : List ℕ) (t l : Option (List ℕ)) → Adds old old t t l l
+adds_none old t l = record { bytes = []; kept = sym (append-nil old); taken_more = appends_none t; left_less = consumes_none l }
+
+pub adds_then : (a b c : List ℕ) (t u v l m n : Option (List ℕ)) → Adds a b t u l m → Adds b c u v m n → Adds a c t v l n
+adds_then a b c t u v l m n p q = record {
+  bytes = p.bytes ++ q.bytes;
+  kept = q.kept ∙ ap (λ (x : List ℕ). x ++ q.bytes) p.kept ∙ append_assoc a p.bytes q.bytes;
+  taken_more = appends_then t u v p.bytes q.bytes p.taken_more q.taken_more;
+  left_less = consumes_then l m n p.bytes q.bytes p.left_less q.left_less;
+}
+
+-- the same where the second call began with an equal buffer
+pub adds_on : (a b c d : List ℕ) (t u v l m n : Option (List ℕ)) → Adds a b t u l m → c ≡ b → Adds c d u v m n → Adds a d t v l n
+adds_on a b c d t u v l m n p e q = adds_then a b d t u v l m n p (subst (λ (x : List ℕ). Adds x d u v m n) e q)
+
+pub takes_of : (old now new : List ℕ) (t u l m : Option (List ℕ)) (end : HeadEnd) → Adds old now t u l m → VerdictOn now m new end → TakesHead old new t u l m end
+takes_of old now new t u l m end p v = record {
+  bytes = p.bytes;
+  taken_more = p.taken_more;
+  left_less = p.left_less;
+  verdict = subst (λ (x : List ℕ). VerdictOn x m new end) p.kept v;
+}
+
+-- fewer bytes than the limit are their own front
+pub front_short : (xs : List ℕ) → length xs < head_limit → front xs ≡ xs
+front_short xs h = take_all head_limit xs (omega arith)
+
+-- bytes that are open and fewer than the limit
+pub open_short : (b : List ℕ) → IsOpen (front b) → length b < head_limit → IsOpen b
+open_short b h short = subst IsOpen (front_short b short) h
+
+-- ---- by all that is left
+
+rest_of_seen : ReadStays → (seen y now : List ℕ) (end : HeadEnd) → VerdictOn seen (Some y) now end → HeadOfRest (seen ++ y) now (Some y) end
+rest_of_seen stays seen y now (head.Head m) v = stays.whole_head seen y m now v
+rest_of_seen stays seen y now head.Bad v = (stays.never_front seen y v.1, refl, refl)
+rest_of_seen stays seen y now head.TooLarge v = (omega (arith, length-append seen y, v.1), stays.open_front seen y v.1 v.2, refl, refl)
+rest_of_seen stays seen y now head.TooMany v = (v.1, v.2 ++ y, stays.head seen y v.1 v.2 v.3, v.4, v.5, refl, refl)
+rest_of_seen stays seen y now head.End v =
+    let same : seen ≡ seen ++ y = sym (append-nil seen) ∙ ap (λ (l : List ℕ). seen ++ l) (sym v.1) in
+    subst IsBetween same v.2
+rest_of_seen stays seen y now head.CutShort v =
+    let same : seen ≡ seen ++ y = sym (append-nil seen) ∙ ap (λ (l : List ℕ). seen ++ l) (sym v.1) in
+    subst (λ (l : List ℕ). HeadOfRest l now (Some y) head.CutShort) same (v.2, v.3, v.4)
+rest_of_seen stays seen y now head.ReadFault v = tt
+rest_of_seen stays seen y now head.NoMemory v = tt
+
+rest_of_told : ReadStays → (old now x : List ℕ) (t u m : Option (List ℕ)) (end : HeadEnd) → TakesHead old now t u (Some x) m end → HeadOfRest (old ++ x) now m end
+rest_of_told stays old now x t u None end h = absurd h.left_less
+rest_of_told stays old now x t u (Some y) end h =
+    subst (λ (l : List ℕ). HeadOfRest l now (Some y) end) (append_assoc old h.bytes y ∙ ap (λ (l : List ℕ). old ++ l) (sym h.left_less))
+    (rest_of_seen stays (old ++ h.bytes) y now end h.verdict)
+
+pub rest_of : ReadStays → (old now : List ℕ) (t u l m : Option (List ℕ)) (end : HeadEnd) → TakesHead old now t u l m end → IfSome l (λ left. HeadOfRest (old ++ left) now m end)
+rest_of stays old now t u None m end h = tt
+rest_of stays old now t u (Some x) m end h = rest_of_told stays old now x t u m end h

@@ -1,0 +1,4 @@
+pub mod Rooms
+pub mod Fills
+pub mod Fronts
+pub mod Taken

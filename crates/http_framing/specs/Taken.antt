@@ -1,0 +1,50 @@
+-- What a call that takes a head leaves, and what it answers, by the bytes that it has seen: those that the
+-- buffer held before the call, and those that it read.
+use Rattle.std.specs.Prelude.{◌≡◌, ◌<◌, ◌≤◌, ℕ, false, List, [], ◌++◌, length, IfSome, ⊤}
+use Rattle.std.specs.declared.option.Option.{Option}
+use Rattle.std.specs.Io.KnownBytes.{Appends, Consumes, IsAtEnd}
+use Rattle.httparse.specs.Grammar.{RequestHead}
+use Rattle.outer_ends.specs.Causes.{Rose}
+use Rattle.http_messages.specs.declared.framings.RefusedRest.TheVariants.{Hopeless, TooLarge, TooMany}
+use Rattle.http_model.specs.Heads.{ReadsHead, IsOpen, NeverHasHead, front, head_limit, field_limit, IsEmptyLines}
+use Rattle.http_model.specs.Messages.{FitsLimit}
+use Rattle.http_model.specs.Requests.{ReadsWholeHead}
+use Rattle.http_model.specs.Rests.{IsBetween, IsRefused}
+use Rattle.http_framing.specs.declared.heads.HeadEnd.{HeadEnd}
+use Rattle.http_framing.specs.declared.heads.HeadEnd.TheVariants as head
+
+-- the answer, where these bytes were seen, and now these are left in the source and those in the buffer
+abbrev pub VerdictOn : List ℕ → Option (List ℕ) → List ℕ → HeadEnd → Type 0
+VerdictOn seen left now (head.Head m) = ReadsWholeHead seen m now
+VerdictOn seen left now head.TooMany =
+    (now ≡ seen) × (h : RequestHead) × (rest : List ℕ) × ReadsHead seen h rest × FitsLimit h × (field_limit < length h.fields)
+VerdictOn seen left now head.Bad = (now ≡ seen) × NeverHasHead (front seen)
+VerdictOn seen left now head.TooLarge = (now ≡ seen) × (head_limit ≤ length seen) × IsOpen (front seen)
+VerdictOn seen left now head.End = (now ≡ seen) × IsAtEnd left × IsBetween seen
+VerdictOn seen left now head.CutShort =
+    (now ≡ seen) × IsAtEnd left × (length seen < head_limit) × IsOpen seen × ¬ (IsEmptyLines seen)
+VerdictOn seen left now head.ReadFault = (now ≡ seen) × (length seen < head_limit) × IsOpen seen
+VerdictOn seen left now head.NoMemory = now ≡ seen
+
+-- what moved, and the answer
+pub record TakesHead (old now : List ℕ) (taken taken_now left left_now : Option (List ℕ)) (end : HeadEnd) : Type 0 where
+  pub bytes : List ℕ
+  pub taken_more : Appends taken taken_now bytes
+  pub left_less : Consumes left left_now bytes
+  pub verdict : VerdictOn (old ++ bytes) left_now now end
+
+-- a fault is answered exactly where the count rose, or stands at the greatest `u64`
+abbrev pub HeadCause : ℕ → ℕ → HeadEnd → Type 0
+HeadCause before now head.ReadFault = Rose before now
+HeadCause before now end = now ≡ before
+
+-- the answer by all that stood there: what the buffer held, and what was left
+abbrev pub HeadOfRest : List ℕ → List ℕ → Option (List ℕ) → HeadEnd → Type 0
+HeadOfRest rest now left (head.Head m) = IfSome left (λ more. ReadsWholeHead rest m (now ++ more))
+HeadOfRest rest now left head.Bad = IsRefused rest Hopeless [] false
+HeadOfRest rest now left head.TooLarge = IsRefused rest TooLarge [] false
+HeadOfRest rest now left head.TooMany = IsRefused rest TooMany [] false
+HeadOfRest rest now left head.End = IsBetween rest
+HeadOfRest rest now left head.CutShort = (length rest < head_limit) × IsOpen rest × ¬ (IsEmptyLines rest)
+HeadOfRest rest now left head.ReadFault = ⊤
+HeadOfRest rest now left head.NoMemory = ⊤

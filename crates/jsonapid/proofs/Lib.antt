@@ -1,0 +1,2 @@
+mod NoteAnswers
+mod NoteLemmas
