@@ -25,13 +25,14 @@ use Rattle.store_model.specs.Valid.{IsValid}
 use Rattle.store_model.specs.Pages.{first_item, place_cmp, place_cmp_total, place_of, page_of, rows_of, rows_at}
 use Rattle.store_model.specs.Included.{HasLink, IsReached, IsReachedFrom, included, has_key}
 use Rattle.serde_json.specs.Data.{Data, null}
-use Rattle.store_model.specs.Resource.{object_of, resource, collection_path, related_path}
+use Rattle.store_model.specs.Resource.{Fields, object_of, resource, collection_path, related_path}
 use Rattle.store_model.specs.Document.{resources, page_links, included_member, page_document, row_document, linked_document, related_document, relationship_name, target_document, document, linked_rows, primary_rows, included_rows}
 use Rattle.store_model.specs.Laws.{Pairwise, AreApart, IsBefore, HasOneCursor, HasLesserKey, IsChain, IsChained, IsFullyLinked, ShowsResources, ShowsRows, included_part}
 use Rattle.store_model.proofs.Basics.{false_or_true, key_is, one_passes, in_left, in_right, in_append, in_map, from_map, all_in, in_all}
 use Rattle.store_model.proofs.Paging.{page_exact}
 use Rattle.store_model.proofs.Reaching.{included_exactly, itself}
 use Rattle.store_model.proofs.WorldRows.{rows_of_exactly, rows_at_exactly, rows_of_apart, linked_apart, one_row}
+use Rattle.store_model.proofs.ShownLinks.{shows_link}
 
 -- ---- pairs
 
@@ -140,24 +141,24 @@ module _ (schema : Schema) (w : World) (valid : IsValid schema w) where
       (leads, elim (row_at w to) as (λ o. IsTrue (is_some o) → (next : Row) × (o ≡ Some next)) [ None ↦ λ h. cc h | Some next ↦ λ h. (next, refl) ] there)
 
   -- from a row, along the first steps of a path, over rows each of which is shown
-  chain_from : (shown : List Row) (path : List ℕ) (steps : ℕ) (from to : Row) → row_at w from.key ≡ Some from → row_at w to.key ≡ Some to
+  chain_from : (fields : Fields) (shown : List Row) (path : List ℕ) (steps : ℕ) (from to : Row) → row_at w from.key ≡ Some from → row_at w to.key ≡ Some to
       → ((n : ℕ) (k : Key) (row : Row) → 1 ≤ n → n ≤ length path → IsReached schema w from.key (take n path) k → row_at w k ≡ Some row → IsIn shown row)
-      → steps ≤ length path → IsReached schema w from.key (take steps path) to.key → (chain : List Row) × IsChain schema shown from chain to
-  chain_from shown path zero from to here there each within reached = ([], one_row schema w valid from to here there reached)
-  chain_from shown [] (suc n) from to here there each within reached = absurd (omega arith)
-  chain_from shown (rel ∷ path) (suc n) from to here there each within reached =
+      → steps ≤ length path → IsReached schema w from.key (take steps path) to.key → (chain : List Row) × IsChain schema fields shown from chain to
+  chain_from fields shown path zero from to here there each within reached = ([], one_row schema w valid from to here there reached)
+  chain_from fields shown [] (suc n) from to here there each within reached = absurd (omega arith)
+  chain_from fields shown (rel ∷ path) (suc n) from to here there each within reached =
       let one = linked_row from rel reached.0 here reached.1 in
       let next = one.1.0 in
       let own : one.1.0.key ≡ reached.0 = (valid.rows reached.0 one.1.0 one.1.1).own_key in
       let at : row_at w one.1.0.key ≡ Some one.1.0 = ap (row_at w) own ∙ one.1.1 in
-      let rest = chain_from shown path n one.1.0 to at there
+      let rest = chain_from fields shown path n one.1.0 to at there
       (λ m k row some short more is. each (suc m) k row (omega arith) (omega arith) (reached.0, reached.1, subst (λ (q : Key). IsReached schema w q (take m path) k) own more) is)
       (omega arith) (subst (λ (q : Key). IsReached schema w q (take n path) to.key) (sym own) reached.2) in
       let leads : IsTrue (links_to schema from rel one.1.0.key) = subst (λ (q : Key). IsTrue (links_to schema from rel q)) (sym own) one.0 in
       let is_shown : IsIn shown one.1.0 = each 1 reached.0 one.1.0 (omega arith) (omega arith) (reached.0, reached.1, refl) one.1.1 in
-      (one.1.0 ∷ rest.0, ((rel, leads), is_shown, rest.1))
+      (one.1.0 ∷ rest.0, (shows_link schema w fields from.key from rel one.1.0.key (valid.rows from.key from here) leads, is_shown, rest.1))
 
-  module _ (primaries : List Row) (fine : AreFine primaries) where
+  module _ (fields : Fields) (primaries : List Row) (fine : AreFine primaries) where
     abbrev keys : List Key
     keys = map (λ (row : Row). row.key) primaries
 
@@ -186,12 +187,12 @@ module _ (schema : Schema) (w : World) (valid : IsValid schema w) where
             }))
           ]
 
-      chained_is : (row : Row) → IsIn more row → IsChained schema primaries (primaries ++ more) row
+      chained_is : (row : Row) → IsIn more row → IsChained schema fields primaries (primaries ++ more) row
       chained_is row among =
           let is = ((included_exactly schema w keys paths valid).exactly row).0 among in
           let along = is.reached.along in
           let first = primary_at is.reached.along.from is.reached.along.among in
-          let chain = chain_from (primaries ++ more) is.reached.path.rels is.reached.along.steps first.0 row (fine.1 first.0 first.1) is.of_world
+          let chain = chain_from fields (primaries ++ more) is.reached.path.rels is.reached.along.steps first.0 row (fine.1 first.0 first.1) is.of_world
           (λ n k r some within reached there. reached_is_shown k r (record {
             path = is.reached.path;
             asked = is.reached.asked;
@@ -200,7 +201,7 @@ module _ (schema : Schema) (w : World) (valid : IsValid schema w) where
           is.reached.along.within (subst (λ (q : Key). IsReached schema w q (take is.reached.along.steps is.reached.path.rels) row.key) (sym first.2) is.reached.along.reached) in
           record { from = first.0; primary = first.1; chain = chain.0; linked = chain.1 }
 
-      with_included : IsFullyLinked schema w primaries more
+      with_included : IsFullyLinked schema w fields primaries more
       with_included =
           let all = included_exactly schema w keys paths valid in
           record {
@@ -210,19 +211,19 @@ module _ (schema : Schema) (w : World) (valid : IsValid schema w) where
             chained = chained_is;
           }
 
-    without_included : IsFullyLinked schema w primaries []
+    without_included : IsFullyLinked schema w fields primaries []
     without_included = record {
       once = pairwise_append (λ a b. a.key ≢ b.key) primaries [] fine.0 tt (λ a b p q. elim q [ ]);
       of_world = all_in (λ row. row_at w row.key ≡ Some row) (primaries ++ []) (λ row among. elim (in_append primaries [] row among) [ inl left ↦ fine.1 row left | inr right ↦ elim right [ ] ]);
       chained = λ row among. elim among [ ];
     }
 
-  pub fully_linked : (fetch : Fetch) → HasOneCursor fetch.query.page → IsFullyLinked schema w (primary_rows schema w fetch.query fetch.target) (included_rows schema w fetch)
+  pub fully_linked : (fetch : Fetch) → HasOneCursor fetch.query.page → IsFullyLinked schema w fetch.query.fields (primary_rows schema w fetch.query fetch.target) (included_rows schema w fetch)
   fully_linked fetch one = by (fetch.query.include)
     where
-      by : (o : Option (List Path)) → IsFullyLinked schema w (primary_rows schema w fetch.query fetch.target) (option_map_or (included schema w (map (λ row. row.key) (primary_rows schema w fetch.query fetch.target))) o [])
-      by None = without_included (primary_rows schema w fetch.query fetch.target) (primaries_fine fetch.query fetch.target one)
-      by (Some paths) = with_included (primary_rows schema w fetch.query fetch.target) (primaries_fine fetch.query fetch.target one) paths
+      by : (o : Option (List Path)) → IsFullyLinked schema w fetch.query.fields (primary_rows schema w fetch.query fetch.target) (option_map_or (included schema w (map (λ row. row.key) (primary_rows schema w fetch.query fetch.target))) o [])
+      by None = without_included fetch.query.fields (primary_rows schema w fetch.query fetch.target) (primaries_fine fetch.query fetch.target one)
+      by (Some paths) = with_included fetch.query.fields (primary_rows schema w fetch.query fetch.target) (primaries_fine fetch.query fetch.target one) paths
 
 -- ---- what a document shows
 

@@ -2,9 +2,8 @@
 use Rattle.std.proofs.Common.{◌≡◌, ℕ, ◌+◌, ◌<◌, ◌≤◌, List, [], ◌∷◌, Bool, true, false, refl, sym, ap, subst, ◌∙◌, Some, None, Option, arith, inl, inr, zero, suc}
 use Rattle.std.specs.Prelude.{⊤, ◌⊎◌, ◌&&◌, not, cond, length, map, get_or, is_some, Result, Ok, Err}
 use Rattle.std.specs.Option.{option_map_or, option_and_then}
-use Rattle.std.specs.Ordering.{is_eq}
 use Rattle.std.specs.List.{AllByRecursion, list_any, range_with_len}
-use Rattle.std.specs.FinMap.Entries.{find-where_key, is_sorted-where_key}
+use Rattle.std.specs.FinMap.Entries.{is_sorted-where_key}
 use Rattle.ident_rules.specs.declared.key.Key.{Key}
 use Rattle.resource_schema.specs.declared.schema.Schema.{Schema}
 use Rattle.world_cells.specs.declared.rows.Row.{Row}
@@ -36,6 +35,7 @@ use Rattle.store_model.proofs.Links.{first_none, when_none}
 use Rattle.store_model.proofs.Keeps.{create_keeps, update_keeps}
 use Rattle.store_model.proofs.LinkChanges.{set_keeps, add_keeps, drop_keeps}
 use Rattle.store_model.proofs.Basics.{find_in, and_true, key_is, passes}
+use Rattle.store_model.specs.CellLaws.{row-without_row}
 
 -- ---- a row that is taken away
 
@@ -64,9 +64,6 @@ link_somewhere schema row rel to leads = elim (within row.links rel) [
 ]
 
 module _ (schema : Schema) (w : World) (key : Key) where
-  row-without : (q : Key) → row_at (without_row w key) q ≡ cond (not (same_key key q)) (row_at w q) None
-  row-without q = find-where_key key_cmp (λ k. not (same_key key k)) q (λ x tied. ap (λ k. not (same_key key k)) (sym (key_is q x (ap is_eq tied)))) w.rows
-
   -- a row that is left, and leads to the one that goes
   referenced : (k : Key) (row : Row) (rel : ℕ) → row_at w k ≡ Some row → same_key key k ≡ false → links_to schema row rel key ≡ true → is_referenced schema w key ≡ true
   referenced k row rel is apart leads =
@@ -87,14 +84,14 @@ module _ (schema : Schema) (w : World) (key : Key) where
             known = own.known;
             values = own.values;
             links = own.links;
-            leads_to_rows = λ rel to leads. subst (λ o. is_some o ≡ true) (sym (row-without to)) (
+            leads_to_rows = λ rel to leads. subst (λ o. is_some o ≡ true) (sym (row-without_row w key to)) (
                 elim (same_key key to) as (λ b. same_key key to ≡ b → is_some (cond (not b) (row_at w to) None) ≡ true) [
                   | true ↦ λ same. let taken = referenced k row rel e apart (subst (λ q. links_to schema row rel q ≡ true) (sym (key_is key to same)) leads) in cc
                   | false ↦ λ other. own.leads_to_rows rel to leads
                 ] refl);
             counted = own.counted;
           }
-        ] refl (sym (row-without k) ∙ is);
+        ] refl (sym (row-without_row w key k) ∙ is);
   }
 
 pub remove_keeps : (schema : Schema) (w : World) (lids : Lids) (who : Who) → IsValid schema w → refused schema w lids (Remove who) ≡ None → IsValid schema ((done schema w lids (Remove who)).world)

@@ -7,9 +7,12 @@ mod Lawful
 mod LinkChanges
 mod Links
 mod Paging
+mod PlainReplies
+mod PlainResources
 mod Reaching
 mod Rows
 mod Runs
+mod ShownLinks
 mod Sources
 mod Valid
 mod WorldRows

@@ -14,8 +14,8 @@ use Rattle.world_cells.specs.declared.rows.Row.{Row}
 use Rattle.world_cells.specs.Lists.{IsIn}
 use Rattle.task_forms.specs.declared.queries.Page.{Page}
 use Rattle.task_forms.specs.declared.queries.SortKey.{SortKey}
-use Rattle.store_model.specs.Pages.{values_cmp, place_cmp, place_cmp_total, place_of, by_place, last_items, first_item, last_item, behind, before, slice_between, slice_of, any_before, any_after, page_of}
-use Rattle.store_model.specs.Laws.{AreApart, IsBefore, IsBetween, HasNoRoom, HasEarlier, HasLater, HasOneCursor, IsPage}
+use Rattle.store_model.specs.Pages.{values_cmp, place_cmp, place_cmp_total, place_of, by_place, last_items, first_item, last_item, behind, before, slice_between, slice_of, any_before, any_after, page_of, sorted}
+use Rattle.store_model.specs.Laws.{AreApart, IsBefore, IsBetween, HasNoRoom, HasEarlier, HasLater, HasOneCursor, IsPage, AreSorted}
 use Rattle.store_model.proofs.Basics.{same_Some, one_passes, passes, in_left, in_right, in_append, in_map, from_map, in_filter, from_filter, all_in, in_all, pairwise_values, sorted_split}
 
 -- ---- one entry more
@@ -317,3 +317,15 @@ module _ (sort : List SortKey) where
 
     pub page_exact : (page : Page) → HasOneCursor page → IsPage sort page rows (page_of sort page rows)
     page_exact page one = page_is page (slice_of sort page (by_place sort rows)) (slice_is page.size page.after page.before (by_place sort rows) one (by_place_sorted rows))
+
+    pub sorted_exact : AreSorted sort rows (sorted sort rows)
+    sorted_exact = record {
+      in_order = pairwise_values (place_cmp sort) (IsBefore sort) everyone (λ d e p q less.
+          subst (λ (a : Place). is_lt (place_cmp sort a (place_of sort e.1)) ≡ true) (placed d p) (subst (λ (a : Place). is_lt (place_cmp sort d.0 a) ≡ true) (placed e q) less)) (by_place_sorted rows);
+      same_rows = λ row. (
+        λ among.
+            let one = from_map (λ (e : Place × Row). e.1) everyone row among in
+            subst (λ (r : Row). IsIn rows r) one.2 (from_place rows one.0 apart one.1).1,
+        λ among. in_map (λ (e : Place × Row). e.1) everyone (place_of sort row, row) (in_place rows row apart among),
+      );
+    }

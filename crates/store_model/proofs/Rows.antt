@@ -1,5 +1,5 @@
 -- More computed examples: including, relationships, loops, pages, lists, refusals and reach.
-use Rattle.std.specs.Prelude.{◌≡◌, ℕ, Bool, List, [], ◌∷◌, true, false, Some, None, codes, map, pos, decimal}
+use Rattle.std.specs.Prelude.{◌≡◌, ℕ, ◌+◌, Bool, List, [], ◌∷◌, true, false, Some, None, codes, map, pos, decimal}
 use Rattle.std.proofs.Common.{refl}
 use Rattle.std.specs.Fmt.{digits}
 use Rattle.std.specs.List.{range_with_len}
@@ -37,6 +37,7 @@ use Rattle.store_model.specs.Reach.{reach}
 use Rattle.store_model.specs.Answer.{answer, effect, empty_reply}
 use Rattle.store_model.proofs.Examples.{blog, no_cursors, page_of_notes, three_notes}
 use Rattle.resource_schema.specs.Kinds.{notes}
+use Rattle.http_messages.specs.declared.messages.Reply.{Reply}
 
 -- ---- short forms
 
@@ -445,3 +446,36 @@ covers_part = refl
 covers_no_more : covers (record { keys = []; parts = record { span = span.Rows 0 edge.End edge.End; found = Some (cell_key.Row (key_at 0 (codes "2"))); from_top = false } ∷ [] }) (cell_key.Row (key_at 0 (codes "3"))) ≡ false
 unfolding digits escape_byte
 covers_no_more = refl
+
+-- ---- what each refusal blames in a list
+
+abbrev refused_with : ℕ → List ℕ → Reply
+refused_with status body = record { status = status; content = content.Plain; location = None; allow = allow.Nothing; body = body }
+
+-- a local id that is not bound, where the operation is named by `ref`
+unbound_target : answer blog empty_world (list_of (Remove (record { named = named.Lid 2 (codes "p"); place = stands.Ref }) ∷ [])) ≡ refused_with 404 (codes "{\"errors\":[{\"code\":\"unknown-lid\",\"source\":{\"pointer\":\"/atomic:operations/0/ref/lid\"},\"status\":\"404\",\"title\":\"Unknown local id\"}]}")
+unfolding digits escape_byte
+unbound_target = refl
+
+-- a local id that is not bound, in the linkage of a new resource
+unbound_member : answer blog by_ann (list_of (with_lid ∷ article (codes "T") ((0, record { named = named.Lid 2 (codes "q"); index = None } ∷ []) ∷ []) ∷ [])) ≡ refused_with 404 (codes "{\"errors\":[{\"code\":\"unknown-lid\",\"source\":{\"pointer\":\"/atomic:operations/1/data/relationships/author/data/lid\"},\"status\":\"404\",\"title\":\"Unknown local id\"}]}")
+unfolding digits escape_byte
+unbound_member = refl
+
+still_linked : answer blog by_ann (list_of (Remove (record { named = named.Id (key_at 2 (codes "ann")); place = stands.Href }) ∷ [])) ≡ refused_with 409 (codes "{\"errors\":[{\"code\":\"still-referenced\",\"source\":{\"pointer\":\"/atomic:operations/0/href\"},\"status\":\"409\",\"title\":\"Resource is still referenced\"}]}")
+unfolding digits escape_byte
+still_linked = refl
+
+exists_in_list : answer blog by_ann (list_of (with_lid ∷ person (codes "ann") (codes "Ann") ∷ [])) ≡ refused_with 409 (codes "{\"errors\":[{\"code\":\"id-exists\",\"source\":{\"pointer\":\"/atomic:operations/1/data/id\"},\"status\":\"409\",\"title\":\"Id already exists\"}]}")
+unfolding digits escape_byte
+exists_in_list = refl
+
+-- no source where no part of the request is to blame
+ended_in_list : answer blog (record { rows = []; counters = (1, 9223372036854775807) ∷ [] }) (list_of (Create 1 None None (value.Text (codes "c") ∷ []) [] ∷ [])) ≡ refused_with 403 (codes "{\"errors\":[{\"code\":\"ids-ended\",\"status\":\"403\",\"title\":\"No ids left\"}]}")
+unfolding digits escape_byte
+ended_in_list = refl
+
+-- members are judged in order, and before their number
+missing_in_resource : answer blog full (list_of (Update (record { named = named.Id (key_at 0 (codes "1")); place = stands.Data }) [] ((1, map (λ n. member_of 1 n (decimal (n + 1))) (range_with_len 0 1001)) ∷ []) ∷ [])) ≡ refused_with 404 (codes "{\"errors\":[{\"code\":\"related-not-found\",\"source\":{\"pointer\":\"/atomic:operations/0/data/relationships/comments/data/1/id\"},\"status\":\"404\",\"title\":\"Related resource not found\"}]}")
+unfolding digits escape_byte
+missing_in_resource = refl

@@ -1,14 +1,14 @@
 -- The cells of a world after a change of one row or one next id.
-use Rattle.std.specs.Prelude.{◌≡◌, ℕ, true, false, cond, if◌then◌else◌, option_map, Some, None, Option, refl}
+use Rattle.std.specs.Prelude.{◌≡◌, ℕ, true, false, cond, not, if◌then◌else◌, option_map, Some, None, Option, refl}
 use Rattle.std.proofs.Common.{sym, ap, ◌∙◌}
 use Rattle.std.specs.Option.{option_map_or}
 use Rattle.std.specs.declared.cmp.Ordering.{Ordering}
 use Rattle.std.specs.declared.cmp.Ordering.TheVariants.{Less, Equal, Greater}
 use Rattle.std.specs.Ordering.{is_eq, nat_cmp, eq_by_cmp}
 use Rattle.std.specs.Cmp.{nat_cmp_total}
-use Rattle.std.specs.FinMap.Entries.{find, find-put, find_tied}
+use Rattle.std.specs.FinMap.Entries.{find, find-put, find_tied, find-where_key}
 use Rattle.ident_rules.specs.declared.key.Key.{Key}
-use Rattle.ident_rules.specs.Key.{key_cmp, key_cmp_total, same_key}
+use Rattle.ident_rules.specs.Key.{key_cmp, key_cmp_total, key_cmp-IsAntisymmetric, same_key}
 use Rattle.resource_schema.specs.declared.schema.Schema.{Schema}
 use Rattle.world_cells.specs.declared.rows.Row.{Row}
 use Rattle.world_cells.specs.declared.keys.CellKey.{CellKey}
@@ -18,7 +18,7 @@ use Rattle.world_cells.specs.declared.cells.Cell.TheVariants as cell
 use Rattle.world_cells.specs.CellLaws.{same_row_cell, map_cond}
 use Rattle.world_cells.specs.CellOrder.{same_cell_key}
 use Rattle.world_cells.specs.World.{World, row_at, cell_at, links_to}
-use Rattle.store_model.specs.Change.{with_row, with_next}
+use Rattle.store_model.specs.Change.{with_row, without_row, with_next}
 
 is_equal : (o : Ordering) → is_eq o ≡ true → o ≡ Equal
 is_equal Less e = cc
@@ -53,6 +53,16 @@ cells-with_row schema w row same (cell_key.Counter kind) = refl
 pub back-with_row : (schema : Schema) (w : World) (row : Row) (to from : Key) (rel : ℕ)
     → cell_at schema (with_row w row) (cell_key.Back to from rel) ≡ cond (same_key from row.key) (leads_by schema (Some row) rel to) (cell_at schema w (cell_key.Back to from rel))
 back-with_row schema w row to from rel = ap (λ r. leads_by schema r rel to) (row-with_row w row from) ∙ map_cond (λ r. leads_by schema r rel to) (same_key from row.key) (Some row) (row_at w from)
+
+-- ---- a row that is taken away
+
+pub row-without_row : (w : World) (key q : Key) → row_at (without_row w key) q ≡ cond (not (same_key key q)) (row_at w q) None
+row-without_row w key q = find-where_key key_cmp (λ k. not (same_key key k)) q (λ x tied. ap (λ k. not (same_key key k)) (sym (key_cmp-IsAntisymmetric q x tied))) w.rows
+
+-- its own cell goes, and the ways back from what it links to
+pub back-without_row : (schema : Schema) (w : World) (key to from : Key) (rel : ℕ)
+    → cell_at schema (without_row w key) (cell_key.Back to from rel) ≡ cond (not (same_key key from)) (cell_at schema w (cell_key.Back to from rel)) None
+back-without_row schema w key to from rel = ap (λ r. leads_by schema r rel to) (row-without_row w key from) ∙ map_cond (λ r. leads_by schema r rel to) (not (same_key key from)) (row_at w from) None
 
 -- ---- one next id
 

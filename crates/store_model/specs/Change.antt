@@ -4,7 +4,8 @@ use Rattle.std.specs.Option.{option_map_or, option_and_then}
 use Rattle.std.specs.List.{list_any, filter, filter_map, range_with_len}
 use Rattle.std.specs.Ordering.{nat_cmp, then_cmp, on}
 use Rattle.std.specs.declared.cmp.Ordering.{Ordering}
-use Rattle.std.specs.Cmp.Lexicographic.{slice_cmp}
+use Rattle.std.specs.Cmp.{IsTotalOrder, nat_cmp_total, then_total, on_total}
+use Rattle.std.specs.Cmp.Lexicographic.{slice_cmp, nat_list_cmp_total}
 use Rattle.std.specs.FinMap.Entries.{find, put, where_key}
 use Rattle.ident_rules.specs.declared.key.Key.{Key}
 use Rattle.resource_schema.specs.declared.schema.Schema.{Schema}
@@ -35,9 +36,14 @@ use Rattle.resource_schema.specs.Kinds.{relationships_of}
 
 -- ---- local ids ("Resource Identifier Objects"): a finite map from a type and a local id to an id
 
+-- by type, and then by bytes
 abbrev pub lid_cmp : ℕ × List ℕ → ℕ × List ℕ → Ordering
 lid_cmp = then_cmp (on (λ l. l.0) nat_cmp) (on (λ l. l.1) (slice_cmp nat_cmp))
 
+pub lid_cmp_total : IsTotalOrder lid_cmp
+lid_cmp_total = then_total (on_total (λ l. l.0) nat_cmp_total) (on_total (λ l. l.1) nat_list_cmp_total)
+
+-- what is bound
 abbrev pub Lids : Type 0
 Lids = List ((ℕ × List ℕ) × List ℕ)
 
@@ -75,6 +81,7 @@ abbrev pub refuse_key : World → Who → Option Key → Option Refusal
 refuse_key w who None = Some (at_target code.UnknownLid who (codes "/lid"))
 refuse_key w who (Some key) = when (not (has_row w key)) (at_target code.NotFound who [])
 
+-- the resource that an operation changes
 abbrev pub refuse_target : World → Lids → Who → Option Refusal
 refuse_target w lids who = refuse_key w who (key_of lids who.named)
 
@@ -84,6 +91,7 @@ refuse_target w lids who = refuse_key w who (key_of lids who.named)
 abbrev pub linkage_pointer : List Relationship → ℕ → List ℕ
 linkage_pointer rels rel = codes "/data/relationships/" ++ option_map_or (λ r. r.name) (slice_get rels rel) [] ++ codes "/data"
 
+-- the pointer of a member, and of what names it
 abbrev pub member_pointer : List ℕ → Member → List ℕ
 member_pointer linkage m = linkage ++ option_map_or (λ n. codes "/" ++ decimal n) m.index []
 
@@ -96,6 +104,7 @@ abbrev pub refuse_named : (Key → Bool) → List ℕ → Option Key → Option 
 refuse_named there pointer None = Some (at_pointer code.UnknownLid pointer)
 refuse_named there pointer (Some key) = when (not (there key)) (at_pointer code.RelatedNotFound pointer)
 
+-- one member of a linkage
 abbrev pub refuse_member : (Key → Bool) → Lids → List ℕ → Member → Option Refusal
 refuse_member there lids linkage m = refuse_named there (member_pointer linkage m ++ name_pointer m.named) (key_of lids m.named)
 
@@ -171,8 +180,13 @@ bind lids kind (Some lid) id = put lid_cmp (kind, lid) id lids
 abbrev pub is_bound : Lids → ℕ → Option (List ℕ) → Bool
 is_bound lids kind lid = option_map_or (λ l. is_some (find lid_cmp (kind, l) lids)) lid false
 
+-- the row that a name stands for, if any
 abbrev pub named_row : World → Lids → Who → Option Row
 named_row w lids who = option_and_then (row_at w) (key_of lids who.named)
+
+-- the ids of its link
+abbrev pub named_ids : World → Lids → Who → ℕ → List (List ℕ)
+named_ids w lids who rel = option_map_or (λ row. ids_of (link_at row rel)) (named_row w lids who) []
 
 -- whether a link from another row leads to the key
 abbrev pub is_referenced : Schema → World → Key → Bool
@@ -191,7 +205,7 @@ refused schema w lids (Create kind id lid values links) =
 refused schema w lids (Update who values links) = first_of (refuse_target w lids who ∷ refuse_links (has_row w) lids (relationships_of schema (kind_of who.named)) links ∷ [])
 refused schema w lids (Remove who) = first_of (refuse_target w lids who ∷ when (option_map_or (is_referenced schema w) (key_of lids who.named) false) (at_target code.StillReferenced who []) ∷ [])
 refused schema w lids (SetLinks who rel members) = first_of (refuse_target w lids who ∷ refuse_linkage (has_row w) lids (codes "/data") [] members ∷ [])
-refused schema w lids (AddLinks who rel members) = first_of (refuse_target w lids who ∷ refuse_linkage (has_row w) lids (codes "/data") (option_map_or (λ row. ids_of (link_at row rel)) (named_row w lids who) []) members ∷ [])
+refused schema w lids (AddLinks who rel members) = first_of (refuse_target w lids who ∷ refuse_linkage (has_row w) lids (codes "/data") (named_ids w lids who rel) members ∷ [])
 refused schema w lids (DropLinks who rel members) = first_of (refuse_target w lids who ∷ map (refuse_member (λ k. true) lids (codes "/data")) members)
 
 -- ---- what an operation does

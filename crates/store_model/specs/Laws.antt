@@ -1,14 +1,17 @@
 -- Laws of the store, in the words of its subject.
 use Rattle.std.specs.Prelude.{◌≡◌, ◌≢◌, ◌≤◌, ◌↔◌, ◌⊎◌, ℕ, not, Bool, true, false, ⊤, IsTrue, IfSome, MatchOption, is_some, codes, List, [], ◌∷◌, ◌++◌, length, Some, None, Option, Result, Ok, Err}
-use Rattle.std.specs.List.{AllByRecursion}
+use Rattle.std.specs.List.{AllByRecursion, zip}
 use Rattle.std.specs.Ordering.{is_lt}
 use Rattle.ident_rules.specs.declared.key.Key.{Key}
 use Rattle.ident_rules.specs.Key.{key_cmp}
 use Rattle.resource_schema.specs.declared.schema.Schema.{Schema}
 use Rattle.resource_schema.specs.declared.values.Place.{Place}
+use Rattle.resource_schema.specs.declared.kinds.Relationship.{Relationship}
+use Rattle.resource_schema.specs.Kinds.{relationships_of}
+use Rattle.world_cells.specs.declared.rows.Link.{Link}
 use Rattle.world_cells.specs.declared.rows.Row.{Row}
 use Rattle.world_cells.specs.Lists.{IsIn}
-use Rattle.world_cells.specs.World.{World, row_at, links_to}
+use Rattle.world_cells.specs.World.{World, row_at}
 use Rattle.error_objects.specs.declared.refusals.Blame.{Blame}
 use Rattle.error_objects.specs.declared.refusals.Blame.TheVariants as blame
 use Rattle.error_objects.specs.declared.refusals.Refusal.{Refusal}
@@ -26,11 +29,15 @@ use Rattle.task_forms.specs.declared.tasks.Task.TheVariants as task
 use Rattle.store_model.specs.Change.{Lids, refused, done}
 use Rattle.store_model.specs.Run.{Ran, operation_pointer, refusal_under}
 use Rattle.store_model.specs.Answer.{answer, effect}
-use Rattle.serde_json.specs.Data.{Data, null}
+use Rattle.serde_json.specs.Data.{Data, null, array}
+use Rattle.serde_json.specs.View.{items_of}
+use Rattle.serde_json.specs.Written.{compact_text}
+use Rattle.json_forms.specs.Plain.{IsPlain}
+use Rattle.http_messages.specs.declared.messages.Reply.{Reply}
 use Rattle.resource_schema.specs.declared.targets.Target.{Target}
 use Rattle.resource_schema.specs.declared.targets.Target.TheVariants as target
 use Rattle.task_forms.specs.declared.queries.Query.{Query}
-use Rattle.store_model.specs.Resource.{object_of, resource}
+use Rattle.store_model.specs.Resource.{Fields, object_of, identifier, linkage, is_shown, relationship_object, relationship_members, resource}
 use Rattle.store_model.specs.Document.{resources}
 use Rattle.store_model.specs.Pages.{Selected, place_cmp, place_of, first_item, last_item}
 use Rattle.store_model.specs.Included.{IsReachedFrom}
@@ -137,6 +144,11 @@ AreApart rows = (a b : Row) → IsIn rows a → IsIn rows b → a.key.id ≡ b.k
 abbrev pub IsBefore : List SortKey → Row → Row → Type 0
 IsBefore sort a b = IsTrue (is_lt (place_cmp sort (place_of sort a) (place_of sort b)))
 
+-- the same rows, each before all that follow it
+pub record AreSorted (sort : List SortKey) (rows listed : List Row) : Type 0 where
+  pub in_order : Pairwise (IsBefore sort) listed
+  pub same_rows : (row : Row) → IsIn listed row ↔ IsIn rows row
+
 -- behind the one cursor, and before the other
 abbrev pub IsBetween : List SortKey → Option Place → Option Place → Place → Type 0
 IsBetween sort after before p = IfSome after (λ cursor. IsTrue (is_lt (place_cmp sort cursor p))) × IfSome before (λ cursor. IsTrue (is_lt (place_cmp sort p cursor)))
@@ -177,24 +189,36 @@ pub record IsPage (sort : List SortKey) (page : Page) (rows : List Row) (shown :
 
 -- ---- compound documents (JSON:API 1.1, "Compound Documents")
 
+-- a linkage that names a resource: its identifier, or an array that has it
+abbrev pub NamesResource : Schema → Key → Data → Type 0
+NamesResource schema key d = (d ≡ identifier schema key) ⊎ ((ds : List Data) × (d ≡ array (items_of ds)) × IsIn ds (identifier schema key))
+
+-- A relationship of a row names a resource, and the row's resource object has that relationship unless a field set leaves it out.
+pub record ShowsLink (schema : Schema) (fields : Fields) (row : Row) (to : Key) : Type 0 where
+  pub relationship : Relationship
+  pub link : Link
+  pub stands : IsIn (zip (relationships_of schema row.key.kind) row.links) (relationship, link)
+  pub names : NamesResource schema to (linkage schema relationship.target link)
+  pub shown : IsTrue (is_shown fields row.key.kind relationship.name) → IsIn (relationship_members schema row fields) (relationship.name, relationship_object schema row.key relationship link)
+
 -- a chain of links between rows that are shown
-abbrev pub IsChain : Schema → List Row → Row → List Row → Row → Type 0
-IsChain schema shown from [] to = from ≡ to
-IsChain schema shown from (next ∷ chain) to = ((rel : ℕ) × IsTrue (links_to schema from rel next.key)) × IsIn shown next × IsChain schema shown next chain to
+abbrev pub IsChain : Schema → Fields → List Row → Row → List Row → Row → Type 0
+IsChain schema fields shown from [] to = from ≡ to
+IsChain schema fields shown from (next ∷ chain) to = ShowsLink schema fields from next.key × IsIn shown next × IsChain schema fields shown next chain to
 
 -- a chain from a primary to a row
-pub record IsChained (schema : Schema) (primaries shown : List Row) (to : Row) : Type 0 where
+pub record IsChained (schema : Schema) (fields : Fields) (primaries shown : List Row) (to : Row) : Type 0 where
   pub from : Row
   pub primary : IsIn primaries from
   pub chain : List Row
-  pub linked : IsChain schema shown from chain to
+  pub linked : IsChain schema fields shown from chain to
 
 -- "Full linkage": each resource stands once and is a row of the one world, and each that is included is reached from a primary
--- by links between resources that are shown.
-pub record IsFullyLinked (schema : Schema) (w : World) (primaries more : List Row) : Type 0 where
+-- by links that are shown between resources that are shown.
+pub record IsFullyLinked (schema : Schema) (w : World) (fields : Fields) (primaries more : List Row) : Type 0 where
   pub once : Pairwise (λ a b. a.key ≢ b.key) (primaries ++ more)
   pub of_world : AllByRecursion (λ row. row_at w row.key ≡ Some row) (primaries ++ more)
-  pub chained : (row : Row) → IsIn more row → IsChained schema primaries (primaries ++ more) row
+  pub chained : (row : Row) → IsIn more row → IsChained schema fields primaries (primaries ++ more) row
 
 -- primary data that is one resource object, or null
 abbrev pub IsOneOrNull : Schema → Query → List Row → Data → Type 0
@@ -225,3 +249,9 @@ ShowsResources (target.Resource key) = ⊤
 ShowsResources (target.Related key rel) = ⊤
 ShowsResources (target.Linkage key rel) = ⊥
 ShowsResources target.Operations = ⊤
+
+-- ---- replies
+
+-- A body that is empty, or the compact text of a value without floats, the members of whose objects stand in byte order.
+abbrev pub HasPlainBody : Reply → Type 0
+HasPlainBody reply = (reply.body ≡ []) ⊎ ((d : Data) × IsPlain d × (reply.body ≡ compact_text d))

@@ -45,6 +45,7 @@ bool_part (value.Int z) = false
 bool_part (value.Text t) = false
 bool_part (value.Bool b) = b
 
+-- by form, and then by the value
 abbrev pub value_cmp : AttrValue → AttrValue → Ordering
 value_cmp = then_cmp (on form_number nat_cmp) (then_cmp (on int_part int_cmp) (then_cmp (on text_part (slice_cmp nat_cmp)) (on bool_part bool_cmp)))
 
@@ -54,16 +55,21 @@ abbrev pub first_value : List AttrValue → AttrValue
 first_value [] = value.Null
 first_value (v ∷ values) = v
 
-abbrev pub directed : SortKey → AttrValue → AttrValue → Ordering
-directed key = elim (key.descending) [ true ↦ flip_args value_cmp | false ↦ value_cmp ]
+-- greater values first where the direction is descending
+abbrev pub in_direction : Bool → AttrValue → AttrValue → Ordering
+in_direction true = flip_args value_cmp
+in_direction false = value_cmp
 
+-- by the first value, and then by the others, each in its direction
 abbrev pub values_cmp : List SortKey → List AttrValue → List AttrValue → Ordering
 values_cmp [] = λ x y. Equal
-values_cmp (key ∷ sort) = then_cmp (on first_value (directed key)) (on (drop 1) (values_cmp sort))
+values_cmp (key ∷ sort) = then_cmp (on first_value (in_direction key.descending)) (on (drop 1) (values_cmp sort))
 
+-- by the values, and then by the id
 abbrev pub place_cmp : List SortKey → Place → Place → Ordering
 place_cmp sort = then_cmp (on (λ p. p.values) (values_cmp sort)) (on (λ p. p.id) id_cmp)
 
+-- where a row stands: its values of the sort keys, and its id
 abbrev pub place_of : List SortKey → Row → Place
 place_of sort row = record { values = map (λ key. get_or row.values key.attribute value.Null) sort; id = row.key.id }
 
@@ -72,6 +78,7 @@ abbrev pub by_place : List SortKey → List Row → List (Place × Row)
 by_place sort [] = []
 by_place sort (row ∷ rows) = put (place_cmp sort) (place_of sort row) row (by_place sort rows)
 
+-- the rows in their order
 abbrev pub sorted : List SortKey → List Row → List Row
 sorted sort rows = map (λ e. e.1) (by_place sort rows)
 
@@ -101,6 +108,7 @@ slice_between sort size (Some cursor) low all = take size (behind sort cursor al
 slice_between sort size None (Some cursor) all = last_items size (before sort cursor all)
 slice_between sort size None None all = take size all
 
+-- the slice that a page asks for
 abbrev pub slice_of : List SortKey → Page → List (Place × Row) → List (Place × Row)
 slice_of sort page all = slice_between sort page.size page.after page.before all
 
@@ -110,6 +118,7 @@ pub record Selected : Type 0 where
   pub before : Bool
   pub after : Bool
 
+-- whether an item stands before the first, and behind the last
 abbrev pub any_before : List SortKey → List (Place × Row) → List (Place × Row) → Bool
 any_before sort items all = option_map_or (λ e. list_any (λ other. is_lt (place_cmp sort other.0 e.0)) all) (first_item items) false
 
@@ -131,15 +140,18 @@ rows_of w kind = map (λ e. e.1) (where_key key_cmp (λ k. k.kind == kind) w.row
 abbrev pub rows_at : World → List Key → List Row
 rows_at w keys = filter_map (row_at w) keys
 
+-- ---- these orders are total
+
 pub value_cmp_total : IsTotalOrder value_cmp
 value_cmp_total = then_total (on_total form_number nat_cmp_total) (then_total (on_total int_part int_cmp_total) (then_total (on_total text_part nat_list_cmp_total) (on_total bool_part bool_cmp_total)))
 
-pub directed_total : (key : SortKey) → IsTotalOrder (directed key)
-directed_total key = elim (key.descending) as (λ b. IsTotalOrder (elim b as (λ _. AttrValue → AttrValue → Ordering) [ true ↦ flip_args value_cmp | false ↦ value_cmp ])) [ true ↦ back_total value_cmp_total | false ↦ value_cmp_total ]
+pub direction_total : (descending : Bool) → IsTotalOrder (in_direction descending)
+direction_total true = back_total value_cmp_total
+direction_total false = value_cmp_total
 
 pub values_cmp_total : (sort : List SortKey) → IsTotalOrder (values_cmp sort)
 values_cmp_total [] = record { antisymm = λ x y. refl; trans = λ x y z a b. a; congr = λ x y z e. refl }
-values_cmp_total (key ∷ sort) = then_total (on_total first_value (directed_total key)) (on_total (drop 1) (values_cmp_total sort))
+values_cmp_total (key ∷ sort) = then_total (on_total first_value (direction_total key.descending)) (on_total (drop 1) (values_cmp_total sort))
 
 pub place_cmp_total : (sort : List SortKey) → IsTotalOrder (place_cmp sort)
 place_cmp_total sort = then_total (on_total (λ p. p.values) (values_cmp_total sort)) (on_total (λ p. p.id) id_cmp_total)

@@ -34,6 +34,7 @@ is_row_in keys (cell_key.Row k) = has_key keys k
 is_row_in keys (cell_key.Back to from rel) = false
 is_row_in keys (cell_key.Counter n) = false
 
+-- the Row keys that pass a test
 abbrev pub is_row_of : (Key → Bool) → CellKey → Bool
 is_row_of test (cell_key.Row k) = test k
 is_row_of test (cell_key.Back to from rel) = false
@@ -48,6 +49,7 @@ id_before rows x = option_map_or (λ row. Some row.key.id) (last_item (filter (�
 abbrev pub id_after : List Row → List ℕ → Option (List ℕ)
 id_after rows x = option_map_or (λ row. Some row.key.id) (first_item (filter (λ row. is_lt (id_cmp x row.key.id)) rows)) None
 
+-- not below the one id, and not above the other, where they are there
 abbrev pub not_below : Option (List ℕ) → List ℕ → Bool
 not_below low x = option_map_or (λ a. not (is_lt (id_cmp x a))) low true
 
@@ -70,6 +72,7 @@ abbrev pub reach_sorted : World → ℕ → Page → List SortKey → Key → Bo
 reach_sorted w kind page [] r = let all = rows_of w kind in r.kind == kind && in_page_range all page ((page_of [] page all).rows) r.id
 reach_sorted w kind page (s ∷ sort) r = r.kind == kind
 
+-- what a collection looks at
 abbrev pub reach_collection : World → ℕ → Query → CellKey → Bool
 reach_collection w kind query k = is_row_of (reach_sorted w kind query.page query.sort) k
 
@@ -87,11 +90,13 @@ reach_target schema w query (target.Related key rel) k = is_row_in (key ∷ link
 reach_target schema w query (target.Linkage key rel) k = is_row_in (key ∷ []) k
 reach_target schema w query target.Operations k = false
 
+-- what a fetch looks at: its target, and what is included
 abbrev pub reach_fetch : Schema → World → Fetch → CellKey → Bool
 reach_fetch schema w fetch k = reach_target schema w fetch.query fetch.target k || is_row_in (map (λ row. row.key) (included_rows schema w fetch)) k
 
 -- ---- operations
 
+-- the keys that members name, those of linkages, and that of a target
 abbrev pub member_keys : Lids → List Member → List Key
 member_keys lids members = filter_map (λ m. key_of lids m.named) members
 
@@ -101,6 +106,7 @@ linked_keys lids links = flat_map (λ l. member_keys lids l.1) links
 abbrev pub target_keys : Lids → Who → List Key
 target_keys lids who = option_map_or (λ key. key ∷ []) (key_of lids who.named) []
 
+-- the ways back from these keys, and the counter of a type
 abbrev pub is_back_to : List Key → CellKey → Bool
 is_back_to keys (cell_key.Row k) = false
 is_back_to keys (cell_key.Back to from rel) = has_key keys to
@@ -136,6 +142,7 @@ reach_operations schema w lids (operation ∷ operations) k =
 
 -- ---- tasks
 
+-- what a task looks at
 abbrev pub reach : Schema → World → Task → CellKey → Bool
 reach schema w (task.Fetch fetch) k = reach_fetch schema w fetch k
 reach schema w (task.Change operations form) k = reach_operations schema w [] operations k

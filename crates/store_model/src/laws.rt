@@ -1,4 +1,4 @@
-ghost use Rattle.std.specs.Prelude.{◌≡◌, List, ℕ, Bool, Result, Err, IfSome};
+ghost use Rattle.std.specs.Prelude.{◌≡◌, List, ℕ, Bool, Result, Err, IfSome, IsTrue};
 ghost use Rattle.std.specs.List.{AllByRecursion};
 ghost use Rattle.ident_rules.specs.declared.key.Key.{Key};
 ghost use Rattle.resource_schema.specs.declared.kinds.Kind.{Kind};
@@ -13,13 +13,19 @@ ghost use Rattle.task_forms.specs.declared.queries.Path.{Path};
 ghost use Rattle.task_forms.specs.declared.queries.SortKey.{SortKey};
 ghost use Rattle.task_forms.specs.declared.tasks.Fetch.{Fetch};
 ghost use Rattle.task_forms.specs.declared.tasks.ReplyForm.{ReplyForm};
-ghost use Rattle.store_model.specs.Valid.{IsValid};
+ghost use Rattle.store_model.specs.Valid.{IsValid, IsValidRow};
 ghost use Rattle.store_model.specs.Run.{run};
-ghost use Rattle.store_model.specs.Pages.{page_of, rows_of, rows_at};
+ghost use Rattle.store_model.specs.Pages.{page_of, rows_of, rows_at, sorted};
 ghost use Rattle.store_model.specs.Included.{included};
 ghost use Rattle.store_model.specs.Document.{document, primary_rows, included_rows};
+ghost use Rattle.store_model.specs.Answer.{answer};
+ghost use Rattle.store_model.specs.Resource.{resource, Fields};
+ghost use Rattle.json_forms.specs.Plain.{IsPlain};
+ghost use Rattle.resource_schema.specs.SchemaRules.{is_schema};
+ghost use Rattle.task_forms.specs.Fit.{IsFit};
+ghost use Rattle.task_forms.specs.declared.tasks.Task.{Task};
 ghost use Rattle.store_model.specs.StoreMeaning.{meaning_of};
-ghost use Rattle.store_model.specs.Laws.{AreApart, AreIncluded, AreRowsAt, AreRowsOf, HasOneCursor, IsAllOrNothing, IsPage, IsFullyLinked, IsPlaced, ShowsResources, ShowsRows, is_list};
+ghost use Rattle.store_model.specs.Laws.{AreApart, AreIncluded, AreRowsAt, AreRowsOf, HasOneCursor, IsAllOrNothing, IsPage, IsFullyLinked, IsPlaced, HasPlainBody, AreSorted, ShowsResources, ShowsRows, is_list};
 
 /// The store's tasks keep what every meaning of tasks keeps: the empty world is valid and has no cell, a fit task leads
 /// from a valid world to a valid one, and a fetch and a reply of status 400 or above change nothing.
@@ -51,6 +57,12 @@ pub fn rows_are_the_worlds()
     ensures at_keys { (schema : List Kind) (w : World) (keys : List Key) → IsValid schema w → AreRowsAt w keys (rows_at w keys) }
 {}
 
+/// Rows that their ids tell apart are sorted: each stands before all that follow it, and none is lost or new (JSON:API
+/// 1.1, "Sorting").
+pub fn sorting_is_exact()
+    ensures { (sort : List SortKey) (rows : List Row) → AreApart rows → AreSorted sort rows (sorted sort rows) }
+{}
+
 /// A page is in order, at most as long as was asked, has nothing that was not asked for and leaves nothing out while it
 /// has room, and says whether a row stands before it and behind it: of any rows that their ids tell apart, of a
 /// collection, and of what a relationship leads to (Cursor Pagination profile).
@@ -61,8 +73,17 @@ pub fn pages_are_exact()
 {}
 
 /// A document shows each resource once, all of them rows of one world, and each that is included is reached from a primary
-/// by links between resources that it shows ("Compound Documents"); its resource objects are those of these rows.
+/// by links that are shown, unless a field set leaves them out, between resources that it shows ("Compound Documents"); its resource objects are those of these rows.
 pub fn documents_are_fully_linked()
-    ensures linked { (schema : List Kind) (w : World) (fetch : Fetch) → IsValid schema w → HasOneCursor fetch.query.page → IsFullyLinked schema w (primary_rows schema w fetch.query fetch.target) (included_rows schema w fetch) }
+    ensures linked { (schema : List Kind) (w : World) (fetch : Fetch) → IsValid schema w → HasOneCursor fetch.query.page → IsFullyLinked schema w fetch.query.fields (primary_rows schema w fetch.query fetch.target) (included_rows schema w fetch) }
     ensures shown { (schema : List Kind) (w : World) (fetch : Fetch) → ShowsResources fetch.target → IfSome (document schema w fetch) (ShowsRows schema fetch.query (primary_rows schema w fetch.query fetch.target) (included_rows schema w fetch)) }
+{}
+
+/// The body of the reply to a fit task is empty, or the compact text of a value without floats, the members of whose
+/// objects stand in byte order; so is each resource object and each document that is written (of this project: RFC 8259,
+/// section 4, leaves the order open).
+pub fn replies_are_plain()
+    ensures replies { (schema : List Kind) (w : World) (t : Task) → IsTrue (is_schema schema) → IsValid schema w → IsFit schema t → HasPlainBody (answer schema w t) }
+    ensures documents { (schema : List Kind) (w : World) (fetch : Fetch) → IsTrue (is_schema schema) → IsValid schema w → HasOneCursor fetch.query.page → IfSome (document schema w fetch) IsPlain }
+    ensures resources { (schema : List Kind) (w : World) (k : Key) (row : Row) (fields : Fields) → IsTrue (is_schema schema) → IsValidRow schema w k row → IsPlain (resource schema row fields) }
 {}
