@@ -1,3 +1,4 @@
 mod AloneLaws
 mod NoteAnswers
 mod NoteLemmas
+mod NotePlanLaws

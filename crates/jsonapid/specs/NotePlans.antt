@@ -44,14 +44,14 @@ has_members count _ = false
 -- the resource object of a new note, which has a type and attributes alone
 abbrev pub resource_of : Data → Option Data
 resource_of d = do
-  data ← get (codes "data") d
-  some_if (has_members 1 d && has_members 2 data) data
+  resource ← get (codes "data") d
+  some_if (has_members 1 d && has_members 2 resource) resource
 
 -- its attributes, which are its text alone
 abbrev pub attributes_of : Data → Option Data
-attributes_of data = do
-  kind ← option_and_then as_str (get (codes "type") data)
-  attributes ← get (codes "attributes") data
+attributes_of resource = do
+  kind ← option_and_then as_str (get (codes "type") resource)
+  attributes ← get (codes "attributes") resource
   some_if (bytes_eq kind (codes "notes") && has_members 1 attributes) attributes
 
 -- the text in them, which is not too long
@@ -63,8 +63,8 @@ text_of attributes = do
 -- the text of the note that a document describes
 abbrev pub text_of_data : Data → Option (List ℕ)
 text_of_data d = do
-  data ← resource_of d
-  attributes ← attributes_of data
+  resource ← resource_of d
+  attributes ← attributes_of resource
   text_of attributes
 
 -- the text of the note that a body describes
@@ -77,9 +77,13 @@ text_of_body body = option_and_then text_of_data (json_of body)
 abbrev pub is_type_field : Field → Bool
 is_type_field f = str_eq_ignore_ascii_case f.name (codes "Content-Type")
 
--- the type of the content is told once, as that of JSON:API (JSON:API 1.1, "JSON:API Media Type")
+-- one that tells that the content is of JSON:API (JSON:API 1.1, "JSON:API Media Type")
+abbrev pub is_json_api : Field → Bool
+is_json_api f = is_type_field f && bytes_eq f.value (codes "application/vnd.api+json")
+
+-- the type of the content is told once, as that of JSON:API
 abbrev pub tells_type : List Field → Bool
-tells_type fields = (length (filter is_type_field fields) == 1) && list_any (λ f. is_type_field f && bytes_eq f.value (codes "application/vnd.api+json")) fields
+tells_type fields = (length (filter is_type_field fields) == 1) && list_any is_json_api fields
 
 -- a POST of a note
 abbrev pub is_post : Message → Bool

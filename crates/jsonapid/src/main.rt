@@ -5,6 +5,7 @@ mod note_bodies;
 mod note_desk;
 mod note_documents;
 mod note_places;
+mod note_planner;
 mod note_rows;
 mod note_targets;
 

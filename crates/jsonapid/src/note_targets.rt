@@ -1,5 +1,6 @@
 ghost use Rattle.std.specs.Prelude.{◌≡◌, take, drop};
-ghost use Rattle.request_model.specs.Words.{begins_in_any_case};
+ghost use Rattle.ident_rules.specs.Id.{is_id};
+ghost use Rattle.request_model.specs.Words.{some_if, begins_in_any_case};
 ghost use Rattle.request_model.specs.Targets.{behind_authority};
 ghost use Rattle.jsonapid.specs.NotePlans.{path_of, id_of_path};
 
@@ -31,10 +32,14 @@ fn has_scheme(scheme: &[u8], target: &[u8]) -> bool
 fn behind_authority(text: &[u8]) -> &[u8]
     ensures { result.now ≡ behind_authority text.now }
 {
-    match text.iter().position(|byte| *byte == b'/' || *byte == b'?') {
-        Some(place) => &text[place..],
-        None => &text[text.len()..],
+    let mut rest = text;
+    while let [byte, tail @ ..] = rest {
+        if *byte == b'/' || *byte == b'?' {
+            return rest;
+        }
+        rest = tail;
     }
+    rest
 }
 
 /// The path that a target counts as.
@@ -50,15 +55,23 @@ pub fn path_of(target: &[u8]) -> &[u8]
     }
 }
 
+/// The id that these bytes are.
+fn id_of(bytes: &[u8]) -> Option<Id>
+    ensures { result ≡ some_if (is_id bytes.now) bytes.now }
+{
+    match from_utf8(bytes) {
+        Ok(text) => read_id(text).ok(),
+        Err(_) => None,
+    }
+}
+
 /// The id in the path of a note.
 pub fn id_of_path(path: &[u8]) -> Option<Id>
     ensures { result ≡ id_of_path path.now }
 {
-    if front(path, 7) != b"/notes/" {
-        return None;
-    }
-    match from_utf8(behind(path, 7)) {
-        Ok(text) => read_id(text).ok(),
-        Err(_) => None,
+    if front(path, 7) == b"/notes/".as_slice() {
+        id_of(behind(path, 7))
+    } else {
+        None
     }
 }
