@@ -2,3 +2,4 @@ mod AloneLaws
 mod NoteAnswers
 mod NoteLemmas
 mod NotePlanLaws
+mod PipeLaws

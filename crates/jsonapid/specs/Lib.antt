@@ -2,3 +2,4 @@ pub mod Alone
 pub mod NotePlans
 pub mod NoteRows
 pub mod NoteTasks
+pub mod Pipes

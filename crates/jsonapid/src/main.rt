@@ -8,5 +8,6 @@ mod note_places;
 mod note_planner;
 mod note_rows;
 mod note_targets;
+mod pipes;
 
 fn main() {}
