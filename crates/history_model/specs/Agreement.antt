@@ -8,7 +8,7 @@ use Rattle.world_cells.specs.Reads.{AgreeOn}
 use Rattle.task_forms.specs.Meaning.{Meaning}
 use Rattle.task_forms.specs.Meaning.{world_after, AreAnswers}
 use Rattle.history_model.specs.Histories.{world_at, IsConflict}
-use Rattle.history_model.specs.Decided.{same_cell}
+use Rattle.world_cells.specs.Decided.{same_cell}
 
 module _ (m : Meaning) (first : ℕ) (w0 : World) (entries : List Entry) (reads : ReadSet) where
   -- n more entries

@@ -1,6 +1,5 @@
 pub mod Agreement
 pub mod CommitLaws
-pub mod Decided
 pub mod Histories
 pub mod Laws
 pub mod LogLaws

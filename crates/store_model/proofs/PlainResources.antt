@@ -29,7 +29,7 @@ use Rattle.world_cells.specs.declared.rows.Link.{Link}
 use Rattle.world_cells.specs.declared.rows.Link.TheVariants.{One, Many}
 use Rattle.world_cells.specs.World.{World}
 use Rattle.store_model.specs.Valid.{IsLinkOf, IsValidRow}
-use Rattle.store_model.specs.Cursor.{integer, value_data}
+use Rattle.request_model.specs.Values.{integer, value_data}
 use Rattle.store_model.specs.Resource.{members_of, object_of, member_unless_empty, identifier, linkage, resource_path, relationship_object, is_shown, attribute_members, relationship_members, resource, Fields}
 use Rattle.store_model.specs.Laws.{Pairwise}
 use Rattle.store_model.proofs.Basics.{and_parts, all_in, in_all}

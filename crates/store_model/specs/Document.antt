@@ -18,7 +18,7 @@ use Rattle.world_cells.specs.World.{World, row_at, linked, link_at}
 use Rattle.task_forms.specs.declared.queries.Query.{Query}
 use Rattle.task_forms.specs.declared.queries.Path.{Path}
 use Rattle.task_forms.specs.declared.tasks.Fetch.{Fetch}
-use Rattle.store_model.specs.Cursor.{cursor_text}
+use Rattle.request_model.specs.Cursors.{cursor_text}
 use Rattle.store_model.specs.Pages.{Selected, place_of, page_of, rows_of, rows_at, first_item, last_item}
 use Rattle.store_model.specs.Included.{included}
 use Rattle.store_model.specs.Resource.{object_of, linkage, resource, collection_path, related_path}

@@ -13,7 +13,7 @@ use Rattle.resource_schema.specs.Kinds.{attributes_of, relationships_of, kind_na
 use Rattle.world_cells.specs.declared.rows.Row.{Row}
 use Rattle.world_cells.specs.declared.rows.Link.{Link}
 use Rattle.world_cells.specs.declared.rows.Link.TheVariants.{One, Many}
-use Rattle.store_model.specs.Cursor.{value_data}
+use Rattle.request_model.specs.Values.{value_data}
 
 -- ---- objects
 
