@@ -1,7 +1,7 @@
 -- A chunk line at the front of a buffer.
-use Rattle.std.proofs.Common.{◌≡◌, ℕ, zero, suc, ◌+◌, ◌-◌, ◌<◌, ◌≤◌, min, List, [], ◌∷◌, ◌++◌, length, take, drop, sym, ap, subst, ◌∙◌, arith, append-nil, length-append, length-take, length-drop, take_all}
+use Rattle.std.proofs.Common.{◌≡◌, ℕ, ◌<◌, ◌≤◌, min, List, [], ◌++◌, length, take, drop, ap, subst, ◌∙◌, arith, append-nil, length-append, length-take, length-drop, take_all}
 use Rattle.std.proofs.lemmas.List.{take_min}
-use Rattle.httparse.specs.Grammar.{ChunkLine, print_chunk_line, HasNoChunkLine, NeverHasChunkLine, HasNoSection}
+use Rattle.httparse.specs.Grammar.{ChunkLine, print_chunk_line, HasNoChunkLine, NeverHasChunkLine}
 use Rattle.httparse.specs.Spans.{IsChunkLineAt}
 use Rattle.http_model.specs.Bodies.{chunk_line_limit, trailer_limit}
 use Rattle.http_framing.specs.FillLaws.{whole_front}

@@ -1,15 +1,13 @@
 -- What stands at the front of a buffer behind the line of a chunk, and chunks one after another.
-use Rattle.std.proofs.Common.{◌≡◌, ℕ, ◌+◌, ◌*◌, ◌<◌, ◌≤◌, List, [], ◌∷◌, ◌++◌, length, drop, refl, sym, ap, subst, ◌∙◌, arith, append_assoc, append-nil, length-append, ◌⊎◌, inl, inr, All, None}
+use Rattle.std.proofs.Common.{◌≡◌, ℕ, ◌+◌, ◌*◌, ◌<◌, ◌≤◌, List, [], ◌∷◌, ◌++◌, length, drop, refl, sym, ap, subst, ◌∙◌, arith, append_assoc, append-nil, length-append, None}
 use Rattle.std.proofs.lemmas.Grind.{flat_map-append}
 use Rattle.std.proofs.lemmas.List.Elements.{All-append, All-nil, All-cons}
-use Rattle.std.specs.List.{flat_map}
 use Rattle.std.specs.declared.option.Option.{Option}
-use Rattle.httparse.specs.Grammar.{ChunkLine, IsChunkLine, print_chunk_line, chunk_size}
+use Rattle.httparse.specs.Grammar.{ChunkLine, print_chunk_line, chunk_size}
 use Rattle.httparse.specs.Ascii.{crlf_bytes}
-use Rattle.http_messages.specs.declared.framings.Framing.{Framing}
 use Rattle.http_messages.specs.declared.framings.Framing.TheVariants.{Chunked}
 use Rattle.http_model.specs.Framings.{body_limit}
-use Rattle.http_model.specs.Bodies.{chunk_line_limit, TakesChunkLine, TakesTrailers, Chunk, IsChunk, print_chunk, print_chunks, content_of, ChunksSoFar, IsBadTrailers, IsBadEnd, IsBadPiece, bad_line, bad_end, bad_trailers, IsCutPiece, cut_line, cut_content, cut_end, cut_trailers, ReadsChunked, IsBadChunked, IsLargeChunked, IsCutChunked}
+use Rattle.http_model.specs.Bodies.{TakesChunkLine, Chunk, IsChunk, print_chunk, print_chunks, content_of, ChunksSoFar, IsBadTrailers, IsBadEnd, IsBadPiece, bad_end, bad_trailers, IsCutPiece, cut_content, cut_end, IsCutChunked}
 use Rattle.http_framing.specs.Fills.{Adds}
 use Rattle.http_framing.specs.FillLaws.{adds_none, adds_then, adds_behind}
 use Rattle.http_bodies.specs.Lines.{HasLine}
@@ -81,7 +79,7 @@ pub on_bad_edge : (len size : ℕ) (line : ChunkLine) (part after body : List �
 on_bad_edge len size line part after body h some within whole bad =
     let place : length (print_chunk_line line) + chunk_size line ≡ len + size = omega (arith, h.size_is, h.len_is) in (
       subst (IsBadPiece (length body) (print_chunk_line line ++ (part ++ after))) place
-      (bad_end line (part ++ after) part after (line_reads len size line (part ++ after) h) (omega (arith, h.size_is)) (omega (arith, h.size_is)) refl (whole ∙ h.size_is) bad),
+          (bad_end line (part ++ after) part after (line_reads len size line (part ++ after) h) (omega (arith, h.size_is)) (omega (arith, h.size_is)) refl (whole ∙ h.size_is) bad),
       omega (arith, h.len_is, h.fits),
     )
 
@@ -135,9 +133,9 @@ chunks_on old buffer now body body_now place n t u v l m k p q =
       content = q.verdict.3 ∙ ap (λ (s : List ℕ). s ++ c.content) p.content ∙ sym (one_content p.chunks c);
       place_is = omega (arith, p.place_is, q.verdict.5, ap length (one_text p.chunks c), length-append (print_chunks p.chunks) (print_chunk c));
       adds = subst (λ (s : List ℕ). Adds old s t v l k) text (
-        adds_then old (print_chunks p.chunks ++ buffer) (print_chunks p.chunks ++ (print_chunk c ++ now)) t u v l m k p.adds
-        (adds_behind (print_chunks p.chunks) buffer (print_chunk c ++ now) u v m k one)
-      );
+          adds_then old (print_chunks p.chunks ++ buffer) (print_chunks p.chunks ++ (print_chunk c ++ now)) t u v l m k p.adds
+          (adds_behind (print_chunks p.chunks) buffer (print_chunk c ++ now) u v m k one)
+          );
     }
 
 -- a chunk has at least one byte of data, and at most 1,026 others

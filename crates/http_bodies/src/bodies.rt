@@ -29,12 +29,7 @@ pub enum BodyEnd {
 }
 
 // Takes a body of so many bytes.
-fn take_sized<S: Source>(
-    alloc: Global,
-    source: &mut S,
-    buffer: &mut Buffer,
-    size: usize,
-) -> BodyEnd
+fn take_sized<S: Source>(alloc: Global, source: &mut S, buffer: &mut Buffer, size: usize) -> BodyEnd
     requires { size ≤ 1048576 }
     ensures takes { TakesBody (Length size) buffer.old buffer.new (S.taken source.old) (S.taken source.new) (S.left source.old) (S.left source.new) result }
     ensures cause { BodyCause (S.faults source.old) (S.faults source.new) result }

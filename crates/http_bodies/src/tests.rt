@@ -57,7 +57,11 @@ fn takes_bodies(rt: HostRuntime) {
         (b"abcde", Framing::Empty, "another body"),
         (b"ab", Framing::Length(3), "cut"),
         (b"3\r\nabc\r\n0\r\n\r\nGET", Framing::Chunked, "body"),
-        (b"1;x=y\r\na\r\n02 \r\nbc\r\n0\r\nX: y\r\n\r\n", Framing::Chunked, "body"),
+        (
+            b"1;x=y\r\na\r\n02 \r\nbc\r\n0\r\nX: y\r\n\r\n",
+            Framing::Chunked,
+            "body",
+        ),
         (b"3\r\nabc\r\n0\r\n", Framing::Chunked, "cut"),
         (b"3\r\nab", Framing::Chunked, "cut"),
         (b"3\r\nabc\nX", Framing::Chunked, "bad at 6"),
@@ -68,7 +72,10 @@ fn takes_bodies(rt: HostRuntime) {
     ];
     for (bytes, framing, want) in cases {
         for piece in 1..4 {
-            assert_eq!(rt; name_of(&take(rt.alloc(), bytes, framing, piece, 0), b"abc"), want);
+            assert_eq!(rt;
+                name_of(&take(rt.alloc(), bytes, framing, piece, 0), b"abc"),
+                want
+            );
         }
     }
 }
@@ -82,7 +89,13 @@ fn kept_of(end: &Result<(BodyEnd, usize), NoMemory>) -> usize {
 
 #[test]
 fn keeps_what_follows(rt: HostRuntime) {
-    let chunked = take(rt.alloc(), b"3\r\nabc\r\n0\r\n\r\nGET /", Framing::Chunked, 100, 0);
+    let chunked = take(
+        rt.alloc(),
+        b"3\r\nabc\r\n0\r\n\r\nGET /",
+        Framing::Chunked,
+        100,
+        0,
+    );
     assert_eq!(rt; name_of(&chunked, b"abc"), "body");
     assert_eq!(rt; kept_of(&chunked), 5);
     let fault = take(rt.alloc(), b"3\r\nabc\r\n0\r\n\r\n", Framing::Chunked, 2, 4);

@@ -1,8 +1,7 @@
-use Rattle.std.proofs.Common.{◌≡◌, ◌++◌, sym, subst, List, ℕ, length}
+use Rattle.std.proofs.Common.{◌++◌, sym, subst, List, ℕ, length}
 use Rattle.httparse.specs.Grammar.{print_chunk_line}
 use Rattle.http_model.specs.Bodies.{IsCutPiece}
 use Rattle.http_framing.specs.FillLaws.{adds_then, adds_behind}
-use Rattle.http_bodies.specs.Pieces.{PieceOn}
 use Rattle.http_bodies.proofs.PieceLaws.{piece_of, on_cut_data, on_cut_edge, on_bad_edge, on_chunk}
 use Rattle.http_bodies.proofs.chunks.take_data.Goals as goal
 
@@ -13,7 +12,7 @@ returns-in-Cut-clause-takes g c = λ line h.
     piece_of (print_chunk_line line) _ _ _ before _ _ _ _ _ _ p.moved.adds (
       p.verdict.2,
       subst (λ (b : List ℕ). IsCutPiece (length before) (print_chunk_line line ++ (p.moved.part ++ b))) (sym p.verdict.1)
-      (on_cut_data c.args.len c.args.size line p.moved.part before h c.requires.some c.requires.within p.verdict.0),
+          (on_cut_data c.args.len c.args.size line p.moved.part before h c.requires.some c.requires.within p.verdict.0),
     )
 
 pub returns-in-Fault-clause-takes : goal.returns-in-Fault-clause-takes
@@ -21,8 +20,8 @@ returns-in-Fault-clause-takes g c = λ line h.
     let p = c.in-Fault.ensures.takes in
     let before = c.args.body.now.items in
     piece_of (print_chunk_line line) _ _ _ before _ _ _ _ _ _ p.moved.adds (
-      subst (λ (b : List ℕ). IsCutPiece (length before) (print_chunk_line line ++ (p.moved.part ++ b))) (sym p.verdict.1)
-      (on_cut_data c.args.len c.args.size line p.moved.part before h c.requires.some c.requires.within p.verdict.0)
+    subst (λ (b : List ℕ). IsCutPiece (length before) (print_chunk_line line ++ (p.moved.part ++ b))) (sym p.verdict.1)
+    (on_cut_data c.args.len c.args.size line p.moved.part before h c.requires.some c.requires.within p.verdict.0)
     )
 
 pub returns-in-Cut-take_edge-clause-takes : goal.returns-in-Cut-take_edge-clause-takes

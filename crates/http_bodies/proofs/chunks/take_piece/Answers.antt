@@ -1,7 +1,6 @@
-use Rattle.std.proofs.Common.{◌≡◌, ◌++◌, ◌≤◌, ◌∙◌, sym, ap, subst, List, ℕ, [], arith}
+use Rattle.std.proofs.Common.{◌≡◌, ◌++◌, ◌∙◌, sym, ap, List, ℕ, [], arith}
 use Rattle.httparse.specs.Grammar.{print_chunk_line}
-use Rattle.http_model.specs.Bodies.{bad_line, cut_line}
-use Rattle.http_bodies.specs.Pieces.{TakesPiece}
+use Rattle.http_model.specs.Bodies.{bad_line}
 use Rattle.http_bodies.proofs.PieceLaws.{piece_of, piece_behind, line_of}
 use Rattle.http_bodies.proofs.chunks.take_piece.Goals as goal
 

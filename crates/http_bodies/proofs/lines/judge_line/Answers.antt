@@ -1,4 +1,4 @@
-use Rattle.std.proofs.Common.{◌≡◌, subst}
+use Rattle.std.proofs.Common.{subst}
 use Rattle.httparse.specs.Grammar.{NeverHasChunkLine}
 use Rattle.http_bodies.proofs.LineFronts.{has_line, no_line}
 use Rattle.http_bodies.proofs.lines.judge_line.Goals as goal

@@ -1,4 +1,4 @@
-use Rattle.std.proofs.Common.{◌≡◌, ◌<◌, ◌≤◌, ◌∙◌, ap, sym, subst, length, take, arith, inl, inr, List, ℕ}
+use Rattle.std.proofs.Common.{◌<◌, ap, sym, subst, length, arith, inl, inr}
 use Rattle.http_model.specs.Bodies.{chunk_line_limit}
 use Rattle.http_framing.specs.FillLaws.{adds_then}
 use Rattle.http_bodies.specs.Lines.{IsOpenLine}

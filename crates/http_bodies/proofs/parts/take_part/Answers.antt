@@ -1,4 +1,4 @@
-use Rattle.std.proofs.Common.{◌≡◌, ◌+◌, ◌<◌, ◌∙◌, refl, sym, ap, true, false, List, ℕ, [], length, length-append, arith}
+use Rattle.std.proofs.Common.{◌∙◌, refl, sym, ap, length, length-append, arith}
 use Rattle.http_bodies.specs.Parts.{Moves}
 use Rattle.http_bodies.proofs.PartMoves.{at_ok, at_err, moves_within, moves_used, moved_none, moved_fill, moved_move, moved_kept}
 use Rattle.http_bodies.proofs.parts.take_part.Goals as goal

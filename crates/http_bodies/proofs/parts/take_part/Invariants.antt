@@ -1,4 +1,4 @@
-use Rattle.std.proofs.Common.{◌≡◌, ◌-◌, ◌+◌, ◌<◌, ◌≤◌, ◌++◌, [], length}
+use Rattle.std.proofs.Common.{◌≡◌, ◌-◌, ◌<◌, ◌≤◌, [], length}
 use Rattle.http_bodies.specs.Parts.{Moved}
 use Rattle.http_bodies.proofs.parts.take_part.Given as goal
 

@@ -1,4 +1,4 @@
-use Rattle.std.proofs.Common.{◌≡◌, ◌<◌, ◌≤◌, ◌∙◌, ap, sym, subst, length, take, arith, inl, inr, List, ℕ}
+use Rattle.std.proofs.Common.{◌<◌, ◌∙◌, ap, sym, subst, length, arith, inl}
 use Rattle.http_model.specs.Bodies.{trailer_limit, IsBadTrailers}
 use Rattle.http_framing.specs.FillLaws.{adds_on}
 use Rattle.http_framing.specs.Sections.{IsOpenSection}
