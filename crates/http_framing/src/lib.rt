@@ -7,6 +7,7 @@ mod fronts;
 mod heads;
 mod parts;
 mod rules;
+mod sections;
 mod targets;
 mod texts;
 
@@ -14,6 +15,7 @@ pub use buffer::{Buffer, Fill};
 pub use heads::{HeadEnd, take_head};
 pub use http_messages::{Framing, HeadFault};
 pub use rules::{closes, expects_continue, is_head, judge_head};
+pub use sections::Section;
 
 #[cfg(test)]
 mod tests;
