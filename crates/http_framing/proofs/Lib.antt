@@ -6,3 +6,4 @@ pub mod SameBytes
 pub mod CommaParts
 pub mod NamedParts
 pub mod Sizes
+pub mod SectionRoom

@@ -2,7 +2,6 @@
 use Rattle.std.proofs.Common.{◌≡◌, ℕ, ◌<◌, List, [], ◌++◌, length, refl, sym, ap, subst, ◌∙◌, arith, append_assoc, append-nil, take_all, length-append}
 use Rattle.std.specs.declared.option.Option.{Option}
 use Rattle.std.specs.Prelude.{IfSome, None, Some}
-use Rattle.outer_ends.specs.StreamLaws.{appends_none, appends_then, consumes_none, consumes_then}
 use Rattle.http_model.specs.Heads.{front, head_limit, IsOpen}
 use Rattle.http_model.specs.Rests.{IsBetween}
 use Rattle.http_model.specs.Laws.{ReadStays}
@@ -10,21 +9,6 @@ use Rattle.http_framing.specs.declared.heads.HeadEnd.{HeadEnd}
 use Rattle.http_framing.specs.declared.heads.HeadEnd.TheVariants as head
 use Rattle.http_framing.specs.Fills.{Adds}
 use Rattle.http_framing.specs.Taken.{TakesHead, VerdictOn, HeadOfRest}
-
-pub adds_none : (old : List ℕ) (t l : Option (List ℕ)) → Adds old old t t l l
-adds_none old t l = record { bytes = []; kept = sym (append-nil old); taken_more = appends_none t; left_less = consumes_none l }
-
-pub adds_then : (a b c : List ℕ) (t u v l m n : Option (List ℕ)) → Adds a b t u l m → Adds b c u v m n → Adds a c t v l n
-adds_then a b c t u v l m n p q = record {
-  bytes = p.bytes ++ q.bytes;
-  kept = q.kept ∙ ap (λ (x : List ℕ). x ++ q.bytes) p.kept ∙ append_assoc a p.bytes q.bytes;
-  taken_more = appends_then t u v p.bytes q.bytes p.taken_more q.taken_more;
-  left_less = consumes_then l m n p.bytes q.bytes p.left_less q.left_less;
-}
-
--- the same where the second call began with an equal buffer
-pub adds_on : (a b c d : List ℕ) (t u v l m n : Option (List ℕ)) → Adds a b t u l m → c ≡ b → Adds c d u v m n → Adds a d t v l n
-adds_on a b c d t u v l m n p e q = adds_then a b d t u v l m n p (subst (λ (x : List ℕ). Adds x d u v m n) e q)
 
 pub takes_of : (old now new : List ℕ) (t u l m : Option (List ℕ)) (end : HeadEnd) → Adds old now t u l m → VerdictOn now m new end → TakesHead old new t u l m end
 takes_of old now new t u l m end p v = record {

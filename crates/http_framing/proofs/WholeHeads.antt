@@ -8,18 +8,12 @@ use Rattle.httparse.specs.declared.spans.HeaderSpan.{HeaderSpan}
 use Rattle.httparse.specs.declared.spans.RequestSpans.{RequestSpans}
 use Rattle.http_model.specs.Heads.{ReadsHead, front, head_limit}
 use Rattle.http_model.specs.Messages.{FitsLimit}
+use Rattle.http_framing.specs.FillLaws.{whole_front}
 use Rattle.http_framing.specs.Fronts.{WholeHead}
 
 pub whole_reads : (buf : List ℕ) (headers : List HeaderSpan) (spans : RequestSpans) (w : WholeHead (front buf) headers spans) → ReadsHead buf w.head (drop spans.len buf)
 whole_reads buf headers spans w =
-    let h = w.head in
-    let rest = drop spans.len (front buf) ++ drop head_limit buf in
-    let text : buf ≡ print_request h ++ rest =
-    sym (take-append-drop head_limit buf) ∙ ap (λ (x : List ℕ). x ++ drop head_limit buf) w.at.reads.1
-    ∙ append_assoc (print_request h) (drop spans.len (front buf)) (drop head_limit buf) in
-    let behind : rest ≡ drop spans.len buf =
-    sym (drop-append_seam (print_request h) rest) ∙ ap (drop (length (print_request h))) (sym text) ∙ ap (λ (n : ℕ). drop n buf) (sym w.at.len) in
-    record { reads = (w.at.reads.0, text ∙ ap (λ (x : List ℕ). print_request h ++ x) behind); target = w.target }
+    record { reads = (w.at.reads.0, whole_front head_limit buf (print_request w.head) spans.len w.at.reads.1 w.at.len); target = w.target }
 
 pub whole_fits : (buf : List ℕ) (headers : List HeaderSpan) (spans : RequestSpans) (w : WholeHead (front buf) headers spans) → FitsLimit w.head
 whole_fits buf headers spans w = omega (arith, w.at.len, w.within.section.len_fits, length-take head_limit buf)

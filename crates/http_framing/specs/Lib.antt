@@ -2,3 +2,5 @@ pub mod Rooms
 pub mod Fills
 pub mod Fronts
 pub mod Taken
+pub mod FillLaws
+pub mod Sections

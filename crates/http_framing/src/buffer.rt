@@ -5,8 +5,10 @@ ghost use Rattle.outer_ends.specs.Causes.{HasCause};
 ghost use Rattle.outer_ends.specs.Streams.{ReadTakes};
 ghost use Rattle.http_framing.specs.Fills.{Adds, FillIs};
 ghost use Rattle.http_framing.specs.Fronts.{JudgedIs};
+ghost use Rattle.http_framing.specs.Sections.{SectionIs};
 
 use crate::fronts::{Judged, judge};
+use crate::sections::{Section, judge_section};
 use httparse::spans::{EMPTY_HEADER_SPAN, HeaderSpan};
 use ident_rules::NoMemory;
 use outer_ends::{Failed, Source};
@@ -111,6 +113,16 @@ impl Buffer {
     {
         let end = self.end.min(self.start + 16384);
         judge(alloc, &self.room[self.start..end], &mut self.spans)
+    }
+
+    /// What stands at the front of the bytes where a section of fields should stand, as trailers are, judged by the
+    /// first 16,384 of them. Takes no memory.
+    pub fn judge_section(&mut self) -> Section
+        ensures kept { self.new ≡ self.old }
+        ensures judged { SectionIs self.old result }
+    {
+        let end = self.end.min(self.start + 16384);
+        judge_section(&self.room[self.start..end], &mut self.spans)
     }
 
     /// Drops the first bytes. Takes no time that grows with the others.

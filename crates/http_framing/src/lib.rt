@@ -7,12 +7,14 @@ mod fronts;
 mod heads;
 mod parts;
 mod rules;
+mod sections;
 mod targets;
 mod texts;
 
 pub use buffer::{Buffer, Fill};
 pub use heads::{HeadEnd, take_head};
 pub use http_messages::{Framing, HeadFault};
+pub use sections::Section;
 pub use rules::{closes, expects_continue, is_head, judge_head};
 
 #[cfg(test)]

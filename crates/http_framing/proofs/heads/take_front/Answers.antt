@@ -1,6 +1,7 @@
 use Rattle.std.proofs.Common.{◌<◌, ◌∙◌, ap, sym, refl, subst, length, arith}
 use Rattle.http_model.specs.Heads.{head_limit, IsOpen, IsEmptyLines}
-use Rattle.http_framing.proofs.Takes.{adds_on, takes_of, open_short}
+use Rattle.http_framing.specs.FillLaws.{adds_on}
+use Rattle.http_framing.proofs.Takes.{takes_of, open_short}
 use Rattle.http_framing.proofs.heads.take_front.Goals as goal
 
 pub returns-in-Never-clause-takes : goal.returns-in-Never-clause-takes

@@ -1,0 +1,56 @@
+-- A section of fields at the front of a buffer; and a field has three bytes at least.
+use Rattle.std.proofs.Common.{◌≡◌, ℕ, ◌+◌, ◌*◌, ◌<◌, ◌≤◌, List, [], ◌∷◌, ◌++◌, length, take, drop, sym, ap, subst, ◌∙◌, arith, append-nil, length-append, length-take, All}
+use Rattle.std.specs.List.{flat_map}
+use Rattle.std.proofs.lemmas.List.Elements.{All-head, All-tail}
+use Rattle.httparse.specs.Grammar.{Field, IsField, LineEnd, crlf, lf, print_end, print_field, print_section, ReadsSection, HasNoSection, NeverHasSection}
+use Rattle.httparse.specs.Spans.{SectionExceeds, IsSectionAt}
+use Rattle.httparse.specs.declared.spans.HeaderSpan.{HeaderSpan}
+use Rattle.http_model.specs.Bodies.{trailer_limit, TakesTrailers}
+use Rattle.http_framing.specs.FillLaws.{whole_front}
+use Rattle.http_framing.specs.Sections.{IsOpenSection}
+
+fields_length : (fields : List Field) → All IsField fields → 3 * length fields ≤ length (flat_map print_field fields)
+fields_length [] h = omega arith
+fields_length (f ∷ fields) h =
+    omega (arith, fields_length fields (All-tail IsField f fields h), (All-head IsField f fields h).name.0, length-append (print_field f) (flat_map print_field fields), field_length f)
+  where
+    end_length : (e : LineEnd) → 0 < length (print_end e)
+    end_length crlf = omega arith
+    end_length lf = omega arith
+
+    field_length : (f : Field) → length f.name + 2 ≤ length (print_field f)
+    field_length f =
+        omega (arith, length-append (f.name ++ 58 ∷ f.raw) (print_end f.end), length-append f.name (58 ∷ f.raw), end_length f.end)
+
+-- the room is enough for the fields of so many bytes
+pub section_room : (p : List ℕ) (room : ℕ) → length p ≤ 3 * room → SectionExceeds room p → ⊥
+section_room p room enough (front, rest, parts, fields, reads, over) =
+    omega (
+      arith,
+      over,
+      fields_length fields reads.0,
+      ap length reads.1,
+      ap length parts,
+      length-append front rest,
+      length-append front (print_end lf),
+      length-append (print_section fields lf) [],
+      length-append (flat_map print_field fields) (print_end lf)
+    )
+
+pub whole_section : (buffer bytes : List ℕ) (headers : List HeaderSpan) (len count : ℕ) (fields : List Field) (last : LineEnd) → bytes ≡ take trailer_limit buffer → len ≤ length bytes
+    → IsSectionAt bytes 0 headers len count fields last → (len ≤ length buffer) × TakesTrailers buffer (drop len buffer)
+whole_section buffer bytes headers len count fields last same within at =
+    let size : len ≡ length (print_section fields last) = omega (arith, at.len_is) in
+    let front : take trailer_limit buffer ≡ print_section fields last ++ drop len (take trailer_limit buffer) =
+    subst (λ (b : List ℕ). b ≡ print_section fields last ++ drop len b) same at.reads.1 in (
+      omega (arith, within, ap length same, length-take trailer_limit buffer),
+      record {
+        fields = fields;
+        last = last;
+        reads = (at.reads.0, whole_front trailer_limit buffer (print_section fields last) len front size);
+        fits = omega (arith, size, within, ap length same, length-take trailer_limit buffer);
+      },
+    )
+
+pub none_of_never : (bytes : List ℕ) → NeverHasSection bytes → HasNoSection bytes
+none_of_never bytes h = subst HasNoSection (append-nil bytes) (h [])
