@@ -106,11 +106,11 @@ found_rest laws old mid now t u v l m n w x message framing asks end h e a p r =
   sent = asked asks;
   written_more = p;
   verdict = subst (λ (s : List ℕ). MessageOn s n now (asked asks) end) (append_assoc old h.bytes r.bytes) (
-    message_of_rest ((old ++ h.bytes) ++ r.bytes) (mid ++ r.bytes) message framing n now (asked asks) end
-    (accepts_more laws (old ++ h.bytes) r.bytes message framing mid (accepted (old ++ h.bytes) m mid message framing h.verdict e))
-    r.verdict
-    (ap asked a)
-  );
+      message_of_rest ((old ++ h.bytes) ++ r.bytes) (mid ++ r.bytes) message framing n now (asked asks) end
+      (accepts_more laws (old ++ h.bytes) r.bytes message framing mid (accepted (old ++ h.bytes) m mid message framing h.verdict e))
+      r.verdict
+      (ap asked a)
+      );
 }
 
 pub found_cut : (old now : List ℕ) (t u l m w : Option (List ℕ)) → TakesHead old now t u l m head.CutShort → TakesMessage old now t u l m w w found.CutShort

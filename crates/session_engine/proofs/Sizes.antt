@@ -8,7 +8,7 @@ use Rattle.http_messages.specs.declared.framings.Framing.TheVariants.{Empty, Len
 use Rattle.http_messages.specs.declared.framings.HeadFault.{HeadFault}
 use Rattle.http_messages.specs.declared.framings.HeadFault.TheVariants.{Host, TwoFramings, BadCoding, UnknownCoding, BadLength, LongBody, Expectation}
 use Rattle.http_model.specs.Framings.{body_limit, codings_of, lengths_of, is_none, size_of, breaks_host, has_two_framings, has_bad_coding, has_unknown_coding, has_bad_length, has_other_expectation, framing_of}
-use Rattle.http_bodies.specs.Taken.{FitsLimit}
+use Rattle.http_bodies.specs.Body.{FitsLimit}
 
 abbrev Fits : Result Framing HeadFault → Type 0
 Fits (Ok framing) = FitsLimit framing

@@ -1,4 +1,4 @@
-ghost use Rattle.std.specs.Prelude.{◌≡◌, ℕ, List};
+ghost use Rattle.std.specs.Prelude.{◌≡◌, ℕ, List, [], None};
 ghost use Rattle.world_cells.specs.World.{World};
 ghost use Rattle.task_forms.specs.declared.tasks.Entry.{Entry as StoreEntry};
 ghost use Rattle.task_forms.specs.declared.tasks.Task.{Task as StoreTask};
@@ -52,6 +52,39 @@ fn stop<K: Sink>(sink: &mut K) -> SessionEnd
     }
 }
 
+/// Answers the messages of a session that has answered none, up to its end.
+fn serve<S: Source, K: Sink, P: Planner, D: Desk>(
+    alloc: Global,
+    planner: &P,
+    source: &mut S,
+    sink: &mut K,
+    desk: &mut D,
+    session: &mut Session,
+) -> SessionEnd
+    requires fresh { session.old ≡ record { answered = 0; buffer = []; pending = None } }
+    requires fit { (t : StoreTask) → P.fit planner.now t → (D.meaning (D.fixed desk.old)).fit t }
+    ensures fixed { D.fixed desk.new ≡ D.fixed desk.old }
+    ensures serves { (first : ℕ) (w : World) (seen mine : List StoreEntry) → D.stands desk.old first w seen mine →
+        Serves (plans_of (P.planned planner.now)) (D.stands desk.new first w) first seen mine
+        (S.taken source.old) (S.taken source.new) (S.left source.old) (S.left source.new) (K.written sink.old) (K.written sink.new) session.new.answered result }
+    ensures cause { EndCause (S.faults source.old) (S.faults source.new) (K.faults sink.old) (K.faults sink.new) result }
+{
+    read_stays();
+    'serving: loop {
+        match session.next(alloc, planner, source, sink) {
+            Next::Ended(end) => return finish(end, sink),
+            Next::Task(task) => match desk.answer(task) {
+                Err(DeskEnd::NoMemory) => return finish(SessionEnd::NoMemory, sink),
+                Err(DeskEnd::Worn) => return stop(sink),
+                Ok(reply) => match session.send(&reply, sink) {
+                    None => (),
+                    Some(end) => return end,
+                },
+            },
+        }
+    }
+}
+
 /// Serves one connection: answers its messages in order, by the planner or by the desk, up to its end. On want of memory
 /// it sends the 503 text and on a worn desk the 507 text; if that write fails, that is a write fault. A fault is answered
 /// only where the count of the source or of the sink rose.
@@ -69,7 +102,7 @@ pub fn drive_counted<S: Source, K: Sink, P: Planner, D: Desk>(
     // messages of the input are to be sent, by the entries that joined.
     ensures serves { (first : ℕ) (w : World) (seen mine : List StoreEntry) → D.stands desk.old first w seen mine →
         Serves (plans_of (P.planned planner.now)) (D.stands desk.new first w) first seen mine
-            (S.taken source.old) (S.taken source.new) (S.left source.old) (S.left source.new) (K.written sink.old) (K.written sink.new) result.answered result.end }
+        (S.taken source.old) (S.taken source.new) (S.left source.old) (S.left source.new) (K.written sink.old) (K.written sink.new) result.answered result.end }
     ensures cause { EndCause (S.faults source.old) (S.faults source.new) (K.faults sink.old) (K.faults sink.new) result.end }
 {
     read_stays();
@@ -77,41 +110,10 @@ pub fn drive_counted<S: Source, K: Sink, P: Planner, D: Desk>(
         let end = finish(SessionEnd::NoMemory, sink);
         return Driven { end, answered: 0 };
     };
-    'serving: loop {
-        match session.next(alloc, planner, source, sink) {
-            Next::Ended(ended) => {
-                let end = finish(ended, sink);
-                return Driven {
-                    end,
-                    answered: session.answered(),
-                };
-            }
-            Next::Task(task) => match desk.answer(task) {
-                Err(DeskEnd::NoMemory) => {
-                    let end = finish(SessionEnd::NoMemory, sink);
-                    return Driven {
-                        end,
-                        answered: session.answered(),
-                    };
-                }
-                Err(DeskEnd::Worn) => {
-                    let end = stop(sink);
-                    return Driven {
-                        end,
-                        answered: session.answered(),
-                    };
-                }
-                Ok(reply) => match session.send(&reply, sink) {
-                    None => (),
-                    Some(end) => {
-                        return Driven {
-                            end,
-                            answered: session.answered(),
-                        };
-                    }
-                },
-            },
-        }
+    let end = serve(alloc, planner, source, sink, desk, &mut session);
+    Driven {
+        end,
+        answered: session.answered(),
     }
 }
 
@@ -128,7 +130,7 @@ pub fn drive<S: Source, K: Sink, P: Planner, D: Desk>(
     ensures fixed { D.fixed desk.new ≡ D.fixed desk.old }
     ensures serves { (first : ℕ) (w : World) (seen mine : List StoreEntry) → D.stands desk.old first w seen mine →
         (answered : ℕ) × Serves (plans_of (P.planned planner.now)) (D.stands desk.new first w) first seen mine
-            (S.taken source.old) (S.taken source.new) (S.left source.old) (S.left source.new) (K.written sink.old) (K.written sink.new) answered result }
+        (S.taken source.old) (S.taken source.new) (S.left source.old) (S.left source.new) (K.written sink.old) (K.written sink.new) answered result }
     ensures cause { EndCause (S.faults source.old) (S.faults source.new) (K.faults sink.old) (K.faults sink.new) result }
 {
     drive_counted(alloc, limits, planner, source, sink, desk).end

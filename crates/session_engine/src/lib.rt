@@ -11,3 +11,6 @@ pub use drives::{Driven, drive, drive_counted};
 pub use http_messages::SessionEnd;
 pub use limits::Limits;
 pub use sessions::{Next, Pending, Session};
+
+#[cfg(test)]
+mod tests;

@@ -2,7 +2,7 @@ ghost use Rattle.std.specs.Prelude.{◌≡◌, [], if◌then◌else◌};
 ghost use Rattle.outer_ends.specs.Causes.{HasCause};
 ghost use Rattle.outer_ends.specs.Streams.{Sends};
 ghost use Rattle.http_messages.specs.ReplyText.{interim_text};
-ghost use Rattle.http_bodies.specs.Taken.{FitsLimit};
+ghost use Rattle.http_bodies.specs.Body.{FitsLimit};
 ghost use Rattle.session_engine.specs.Seen.{TakesMessage, TakesRest, TakenCause};
 
 use http_bodies::{BodyEnd, take_body};

@@ -12,16 +12,16 @@ returns-in-Err-clause-sees g c =
 pub returns-in-None-clause-sees : goal.returns-in-None-clause-sees
 returns-in-None-clause-sees g c =
     along _ _ _ _ _ _ _ _ _ _ _ c.self.view_is (
-      step_answered _ _ (record { answered = c.self.inside.answered; buffer = c.take_message.new.buffer; pending = c.self.inside.pending }) _ _ _ _ _ _ _ _ c.in-Whole.message c.in-Ok-Fixed.reply _ c.in-Whole.ensures.takes
-      (ap as_planned (sym c.in-Ok-Fixed.ensures.planned ∙ c.in-Ok-Fixed.field-0-is)) c.is_head-head_only.ensures c.closes-close.ensures refl
-      (subst (λ (s : SessionState). s.answered < 1000000) (sym c.self.view_is) c.requires) c.in-None.ensures.sends
+    step_answered _ _ (record { answered = c.self.inside.answered; buffer = c.take_message.new.buffer; pending = c.self.inside.pending }) _ _ _ _ _ _ _ _ c.in-Whole.message c.in-Ok-Fixed.reply _ c.in-Whole.ensures.takes
+    (ap as_planned (sym c.in-Ok-Fixed.ensures.planned ∙ c.in-Ok-Fixed.field-0-is)) c.is_head-head_only.ensures c.closes-close.ensures refl
+    (subst (λ (s : SessionState). s.answered < 1000000) (sym c.self.view_is) c.requires) c.in-None.ensures.sends
     )
 
 pub returns-in-Whole-clause-sees : goal.returns-in-Whole-clause-sees
 returns-in-Whole-clause-sees g c =
     along _ _ _ _ _ _ _ _ _ _ _ c.self.view_is (
-      step_replied _ _ (record { answered = c.self.inside.answered; buffer = c.take_message.new.buffer; pending = c.self.inside.pending }) _ _ _ _ _ _ _ _ c.in-Whole.message c.in-Ok-Fixed.reply _ c.in-Some.end c.in-Whole.ensures.takes
-      (ap as_planned (sym c.in-Ok-Fixed.ensures.planned ∙ c.in-Ok-Fixed.field-0-is)) c.is_head-head_only.ensures c.closes-close.ensures refl c.in-Some.ensures.sends
+    step_replied _ _ (record { answered = c.self.inside.answered; buffer = c.take_message.new.buffer; pending = c.self.inside.pending }) _ _ _ _ _ _ _ _ c.in-Whole.message c.in-Ok-Fixed.reply _ c.in-Some.end c.in-Whole.ensures.takes
+    (ap as_planned (sym c.in-Ok-Fixed.ensures.planned ∙ c.in-Ok-Fixed.field-0-is)) c.is_head-head_only.ensures c.closes-close.ensures refl c.in-Some.ensures.sends
     )
 
 pub returns-in-CutShort-clause-sees : goal.returns-in-CutShort-clause-sees

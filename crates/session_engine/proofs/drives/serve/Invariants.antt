@@ -1,7 +1,7 @@
 use Rattle.std.proofs.Common.{◌≡◌, ◌-◌, ◌<◌, ℕ}
 use Rattle.session_engine.specs.Plans.{plans_of}
 use Rattle.session_engine.proofs.Serving.{Serving}
-use Rattle.session_engine.proofs.drives.drive_counted.Given as goal
+use Rattle.session_engine.proofs.drives.serve.Given as goal
 
 abbrev pub invariant-serving : goal.invariant-serving
 invariant-serving g l = record {
