@@ -27,7 +27,8 @@ use Rattle.task_forms.specs.declared.desk.DeskEnd.TheVariants as desk
 use Rattle.task_forms.specs.Desks.{Joins, Refuses, last_number}
 use Rattle.session_engine.specs.declared.sessions.Pending.{Pending}
 use Rattle.session_engine.specs.declared.sessions.Next.TheVariants as next
-use Rattle.session_engine.specs.Plans.{TaskPlans}
+use Rattle.task_forms.specs.declared.tasks.Plan.{Plan}
+use Rattle.session_engine.specs.Plans.{TaskPlans, plans_of}
 use Rattle.session_engine.specs.States.{SessionState}
 use Rattle.session_engine.specs.Finishing.{Finishes, Stops}
 use Rattle.session_engine.specs.Seen.{Answers, RanOut, Asks, EndOn, IsStable, Settles, NextSees, Replies, Serves}
@@ -434,6 +435,10 @@ module _ (laws : ReadStays) (plans : TaskPlans) (own : ReadsEntries plans) (old 
   unfolding how
   serving_sent sent = serving_more (replies_of now.pending how r now next_state x y None p.pending sent)
 
+-- a planner's plans read entries so
+pub own_entries : (planned : Message → Plan) → ReadsEntries (plans_of planned)
+own_entries planned = record { task = λ e. refl; reply = λ e. refl }
+
 -- ---- the start
 
 same_lists : (old : Standing) (first : ℕ) (world : World) (seen mine : List Entry) → old first world seen mine → old first world (seen ++ []) (mine ++ [])
@@ -453,6 +458,14 @@ serve_start laws plans old t l w x (Refused s) f first world seen mine h = absur
 serve_start laws plans old t l w x CutShort f first world seen mine h = absurd f
 serve_start laws plans old t l w x ReadFault f first world seen mine h = absurd f
 serve_start laws plans old t l w x Worn f first world seen mine h = absurd f
+
+-- ---- the number of answers under another name
+
+pub counted_as : (plans : TaskPlans) (old later : Standing) (t u l m w x : Option (List ℕ)) (k n : ℕ) (end : SessionEnd) → n ≡ k
+    → ((first : ℕ) (world : World) (seen mine : List Entry) → old first world seen mine → Serves plans (later first world) first seen mine t u l m w x k end)
+    → (first : ℕ) (world : World) (seen mine : List Entry) → old first world seen mine → Serves plans (later first world) first seen mine t u l m w x n end
+counted_as plans old later t u l m w x k n end e h first world seen mine stood =
+    subst (λ (a : ℕ). Serves plans (later first world) first seen mine t u l m w x a end) (sym e) (h first world seen mine stood)
 
 -- ---- the measure
 

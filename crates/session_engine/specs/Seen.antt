@@ -189,6 +189,18 @@ abbrev pub NextCause : ℕ → ℕ → ℕ → ℕ → Next → Type 0
 NextCause reads reads_now writes writes_now (next.Ended e) = EndCause reads reads_now writes writes_now e
 NextCause reads reads_now writes writes_now (next.Task t) = (reads_now ≡ reads) × (writes_now ≡ writes)
 
+-- ---- tasks that are planned
+
+-- a task that came is one of those that the planner may plan
+abbrev pub FitStep : (Task → Type 0) → Step → Type 0
+FitStep fit (step.Task t) = fit t
+FitStep fit step.Answered = ⊤
+FitStep fit (step.Ended e) = ⊤
+
+abbrev pub FitNext : (Task → Type 0) → Next → Type 0
+FitNext fit (next.Task t) = fit t
+FitNext fit (next.Ended e) = ⊤
+
 -- ---- the reply to what is pending
 
 abbrev pub Replies : Pending → Reply → SessionState → SessionState → Option (List ℕ) → Option (List ℕ) → Option SessionEnd → Type 0

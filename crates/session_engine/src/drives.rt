@@ -1,10 +1,29 @@
+ghost use Rattle.std.specs.Prelude.{◌≡◌, ℕ, List, [], None};
+ghost use Rattle.world_cells.specs.World.{World};
+ghost use Rattle.task_forms.specs.declared.tasks.Entry.{Entry as StoreEntry};
+ghost use Rattle.task_forms.specs.declared.tasks.Task.{Task as StoreTask};
+ghost use Rattle.session_engine.specs.Plans.{plans_of};
+ghost use Rattle.session_engine.specs.Seen.{Serves, EndCause};
 ghost use Rattle.session_engine.specs.Finishing.{Finishes, FinishCause, Stops, StopCause};
 
+use crate::{Limits, Next, Session};
 use http_messages::{SessionEnd, Stop, send_stop, send_unavailable};
-use outer_ends::{Failed, Sink};
+use http_model::read_stays;
+use outer_ends::{Failed, Sink, Source};
+use std::alloc::Global;
+use task_forms::{Desk, DeskEnd, Planner};
+
+/// How a session ended, and how many messages it answered.
+#[derive(Clone, Copy, Debug, PartialEq, Eq)]
+pub struct Driven {
+    /// The end.
+    pub end: SessionEnd,
+    /// The messages that were answered.
+    pub answered: u64,
+}
 
 /// Writes the text for want of memory behind that end.
-pub fn finish<K: Sink>(end: SessionEnd, sink: &mut K) -> SessionEnd
+fn finish<K: Sink>(end: SessionEnd, sink: &mut K) -> SessionEnd
     ensures sends { Finishes end (K.written sink.old) (K.written sink.new) result }
     ensures cause { FinishCause (K.faults sink.old) (K.faults sink.new) end result }
 {
@@ -23,7 +42,7 @@ pub fn finish<K: Sink>(end: SessionEnd, sink: &mut K) -> SessionEnd
 }
 
 /// Writes the text for a worn desk.
-pub fn stop<K: Sink>(sink: &mut K) -> SessionEnd
+fn stop<K: Sink>(sink: &mut K) -> SessionEnd
     ensures sends { Stops (K.written sink.old) (K.written sink.new) result }
     ensures cause { StopCause (K.faults sink.old) (K.faults sink.new) result }
 {
@@ -31,4 +50,88 @@ pub fn stop<K: Sink>(sink: &mut K) -> SessionEnd
         Ok(()) => SessionEnd::Worn,
         Err(Failed) => SessionEnd::WriteFault,
     }
+}
+
+/// Answers the messages of a session that has answered none, up to its end.
+fn serve<S: Source, K: Sink, P: Planner, D: Desk>(
+    alloc: Global,
+    planner: &P,
+    source: &mut S,
+    sink: &mut K,
+    desk: &mut D,
+    session: &mut Session,
+) -> SessionEnd
+    requires fresh { session.old ≡ record { answered = 0; buffer = []; pending = None } }
+    requires fit { (t : StoreTask) → P.fit planner.now t → (D.meaning (D.fixed desk.old)).fit t }
+    ensures fixed { D.fixed desk.new ≡ D.fixed desk.old }
+    ensures serves { (first : ℕ) (w : World) (seen mine : List StoreEntry) → D.stands desk.old first w seen mine →
+        Serves (plans_of (P.planned planner.now)) (D.stands desk.new first w) first seen mine
+        (S.taken source.old) (S.taken source.new) (S.left source.old) (S.left source.new) (K.written sink.old) (K.written sink.new) session.new.answered result }
+    ensures cause { EndCause (S.faults source.old) (S.faults source.new) (K.faults sink.old) (K.faults sink.new) result }
+{
+    read_stays();
+    'serving: loop {
+        match session.next(alloc, planner, source, sink) {
+            Next::Ended(end) => return finish(end, sink),
+            Next::Task(task) => match desk.answer(task) {
+                Err(DeskEnd::NoMemory) => return finish(SessionEnd::NoMemory, sink),
+                Err(DeskEnd::Worn) => return stop(sink),
+                Ok(reply) => match session.send(&reply, sink) {
+                    None => (),
+                    Some(end) => return end,
+                },
+            },
+        }
+    }
+}
+
+/// Serves one connection: answers its messages in order, by the planner or by the desk, up to its end. On want of memory
+/// it sends the 503 text and on a worn desk the 507 text; if that write fails, that is a write fault. A fault is answered
+/// only where the count of the source or of the sink rose.
+pub fn drive_counted<S: Source, K: Sink, P: Planner, D: Desk>(
+    alloc: Global,
+    limits: Limits,
+    planner: &P,
+    source: &mut S,
+    sink: &mut K,
+    desk: &mut D,
+) -> Driven
+    requires fit { (t : StoreTask) → P.fit planner.now t → (D.meaning (D.fixed desk.old)).fit t }
+    ensures fixed { D.fixed desk.new ≡ D.fixed desk.old }
+    // For any lists for which the desk stood: it stands for lists that begin with them, and what was written is what the
+    // messages of the input are to be sent, by the entries that joined.
+    ensures serves { (first : ℕ) (w : World) (seen mine : List StoreEntry) → D.stands desk.old first w seen mine →
+        Serves (plans_of (P.planned planner.now)) (D.stands desk.new first w) first seen mine
+        (S.taken source.old) (S.taken source.new) (S.left source.old) (S.left source.new) (K.written sink.old) (K.written sink.new) result.answered result.end }
+    ensures cause { EndCause (S.faults source.old) (S.faults source.new) (K.faults sink.old) (K.faults sink.new) result.end }
+{
+    read_stays();
+    let Ok(mut session) = Session::new(alloc, limits) else {
+        let end = finish(SessionEnd::NoMemory, sink);
+        return Driven { end, answered: 0 };
+    };
+    let end = serve(alloc, planner, source, sink, desk, &mut session);
+    Driven {
+        end,
+        answered: session.answered(),
+    }
+}
+
+/// Serves one connection as `drive_counted` does, and tells its end alone.
+pub fn drive<S: Source, K: Sink, P: Planner, D: Desk>(
+    alloc: Global,
+    limits: Limits,
+    planner: &P,
+    source: &mut S,
+    sink: &mut K,
+    desk: &mut D,
+) -> SessionEnd
+    requires fit { (t : StoreTask) → P.fit planner.now t → (D.meaning (D.fixed desk.old)).fit t }
+    ensures fixed { D.fixed desk.new ≡ D.fixed desk.old }
+    ensures serves { (first : ℕ) (w : World) (seen mine : List StoreEntry) → D.stands desk.old first w seen mine →
+        (answered : ℕ) × Serves (plans_of (P.planned planner.now)) (D.stands desk.new first w) first seen mine
+        (S.taken source.old) (S.taken source.new) (S.left source.old) (S.left source.new) (K.written sink.old) (K.written sink.new) answered result }
+    ensures cause { EndCause (S.faults source.old) (S.faults source.new) (K.faults sink.old) (K.faults sink.new) result }
+{
+    drive_counted(alloc, limits, planner, source, sink, desk).end
 }

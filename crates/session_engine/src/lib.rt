@@ -1,10 +1,16 @@
-//! Sessions, in scratch form.
+//! Sessions: the messages of one connection, read, answered in order by a planner and a desk, and ended (RFC 9112,
+//! section 9).
 #![tactic(auto)]
 
 mod drives;
+mod limits;
 mod messages;
 mod sessions;
 
+pub use drives::{Driven, drive, drive_counted};
 pub use http_messages::SessionEnd;
-pub use messages::Taken;
-pub use sessions::{Next, Pending, Step};
+pub use limits::Limits;
+pub use sessions::{Next, Pending, Session};
+
+#[cfg(test)]
+mod tests;
