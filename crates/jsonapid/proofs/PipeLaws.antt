@@ -1,12 +1,14 @@
 -- A connection makes at most one entry for each of at most 1,000,000 messages, so its store is never worn.
-use Rattle.std.proofs.Common.{◌≡◌, ◌≢◌, ◌⊎◌, ℕ, zero, suc, ◌+◌, ◌<◌, ◌≤◌, Bool, true, false, false≢true, List, [], ◌∷◌, ◌++◌, length, refl, sym, ap, ◌∙◌, subst, inl, inr, arith, length-append, eqb, eq-eqb, Some, None, Option}
+use Rattle.std.proofs.Common.{◌≡◌, ◌≢◌, ◌⊎◌, ℕ, zero, suc, ◌+◌, ◌<◌, ◌≤◌, Bool, true, false, List, [], ◌∷◌, ◌++◌, length, refl, sym, ap, ◌∙◌, subst, inl, inr, arith, length-append, eqb, eq-eqb, Some, None, Option}
+use Rattle.std.proofs.lemmas.Bool.{false≢true}
+use Rattle.std.proofs.lemmas.List.Elements.{All-head, All-tail}
 use Rattle.std.specs.Prelude.{◌||◌, ◌^◌, IfSome, IsTrue, IsFalse, All}
 use Rattle.http_messages.specs.declared.messages.Message.{Message}
 use Rattle.http_messages.specs.declared.messages.Reply.{Reply}
 use Rattle.http_messages.specs.declared.ends.SessionEnd.{SessionEnd}
 use Rattle.http_messages.specs.declared.ends.SessionEnd.TheVariants.{Closed, Refused, CutShort, ReadFault, WriteFault, NoMemory, Worn}
 use Rattle.http_model.specs.Framings.{closes}
-use Rattle.http_model.specs.Exchanges.{Plans, Planned, planned_reply, planned_task, Exchange, IsAnswer, Runs, StaysOpen, LastCloses, entries_of}
+use Rattle.http_model.specs.Exchanges.{Plans, Planned, planned_reply, planned_task, Exchange, IsAnswer, Runs, closes_by, StaysOpen, LastCloses, entries_of}
 use Rattle.http_model.specs.Served.{Served, EndIs, CanBeCut, in_reply, in_refusal, in_last}
 use Rattle.task_forms.specs.Desks.{last_number}
 
@@ -44,16 +46,16 @@ module _ {T E : Type 0} (plans : Plans T E) where
   open_count i bytes [] j rest runs stays few = omega (arith, runs.0, few)
   open_count i bytes (x ∷ xs) j rest runs stays few =
       let number : x.number ≡ i + 1 = runs.2 in
-      let below : x.number < 1000000 = few_more x.message x.number (omega (arith, number, few)) (stays.0) in
-      open_count x.number runs.0 xs j rest runs.4 stays.1 below
+      let below : x.number < 1000000 = few_more x.message x.number (omega (arith, number, few)) (All-head (λ y. IsFalse (closes_by y)) x xs stays) in
+      open_count x.number runs.0 xs j rest runs.4 (All-tail (λ y. IsFalse (closes_by y)) x xs stays) below
 
   -- with one more they are at most as many
   last_count : (i : ℕ) (bytes : List ℕ) (front : List (Exchange E)) (last : Exchange E) (j : ℕ) (rest : List ℕ) → Runs plans i bytes (front ++ last ∷ []) j rest → StaysOpen front → i < 1000000 → j ≤ 1000000
   last_count i bytes [] last j rest runs stays few = let number : last.number ≡ i + 1 = runs.2 in let end : j ≡ last.number = runs.4.0 in omega (arith, number, end, few)
   last_count i bytes (x ∷ xs) last j rest runs stays few =
       let number : x.number ≡ i + 1 = runs.2 in
-      let below : x.number < 1000000 = few_more x.message x.number (omega (arith, number, few)) (stays.0) in
-      last_count x.number runs.0 xs last j rest runs.4 stays.1 below
+      let below : x.number < 1000000 = few_more x.message x.number (omega (arith, number, few)) (All-head (λ y. IsFalse (closes_by y)) x xs stays) in
+      last_count x.number runs.0 xs last j rest runs.4 (All-tail (λ y. IsFalse (closes_by y)) x xs stays) below
 
   whole_count : (bytes : List ℕ) (xs : List (Exchange E)) (j : ℕ) (rest : List ℕ) → Runs plans 0 bytes xs j rest → StaysOpen xs ⊎ LastCloses xs → j ≤ 1000000
   whole_count bytes xs j rest runs (inl stays) = let n = open_count 0 bytes xs j rest runs stays (omega arith) in omega (arith, n)
@@ -77,7 +79,7 @@ module _ {T E : Type 0} (plans : Plans T E) where
   at_end worn xs answered rest more tail (Refused s) is = (inl is.0, nothing more is.2)
   at_end worn xs answered rest more tail CutShort is = (inl is.0, nothing more is.2)
   at_end worn xs answered rest more tail ReadFault is = (inl is.0, nothing more is.2)
-  at_end worn xs answered rest more tail WriteFault is = (inl is.0, cut_count worn answered rest more is.1 is.2)
+  at_end worn xs answered rest more tail WriteFault is = (inl is.0, cut_count worn answered rest more is.1.0 is.1.1)
   at_end worn xs answered rest more tail NoMemory is = (inl is.0, nothing more is.2)
   at_end worn xs answered rest more tail Worn is = (inl is.0, nothing more is.2)
 

@@ -1,0 +1,16 @@
+-- What is printed for `--help` and for `--version`.
+use Rattle.std.specs.Prelude.{ℕ, List, [], ◌∷◌, ◌++◌, codes, if◌then◌else◌, Option, Some, None}
+use Rattle.std.specs.Str.{bytes_eq}
+
+abbrev pub help_text : List ℕ
+help_text =
+    codes "usage: jsonapid pipe" ++ 10 ∷ 10 ∷ codes "Serves one connection of HTTP/1.1 from standard input to standard output, over a store of notes that begins empty."
+    ++ 10 ∷ []
+
+abbrev pub version_text : List ℕ
+version_text = codes "jsonapid 0.1.0" ++ 10 ∷ []
+
+-- where one of the two is the only word
+abbrev pub notice_for : List (List ℕ) → Option (List ℕ)
+notice_for (word ∷ []) = if bytes_eq word (codes "--help") then Some help_text else (if bytes_eq word (codes "--version") then Some version_text else None)
+notice_for words = None
