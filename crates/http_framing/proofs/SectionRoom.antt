@@ -1,13 +1,12 @@
 -- A section of fields at the front of a buffer; and a field has three bytes at least.
-use Rattle.std.proofs.Common.{◌≡◌, ℕ, ◌+◌, ◌*◌, ◌<◌, ◌≤◌, List, [], ◌∷◌, ◌++◌, length, take, drop, sym, ap, subst, ◌∙◌, arith, append-nil, length-append, length-take, All}
+use Rattle.std.proofs.Common.{◌≡◌, ℕ, ◌+◌, ◌*◌, ◌<◌, ◌≤◌, List, [], ◌∷◌, ◌++◌, length, take, drop, ap, subst, arith, append-nil, length-append, length-take, All}
 use Rattle.std.specs.List.{flat_map}
 use Rattle.std.proofs.lemmas.List.Elements.{All-head, All-tail}
-use Rattle.httparse.specs.Grammar.{Field, IsField, LineEnd, crlf, lf, print_end, print_field, print_section, ReadsSection, HasNoSection, NeverHasSection}
+use Rattle.httparse.specs.Grammar.{Field, IsField, LineEnd, crlf, lf, print_end, print_field, print_section, HasNoSection, NeverHasSection}
 use Rattle.httparse.specs.Spans.{SectionExceeds, IsSectionAt}
 use Rattle.httparse.specs.declared.spans.HeaderSpan.{HeaderSpan}
 use Rattle.http_model.specs.Bodies.{trailer_limit, TakesTrailers}
 use Rattle.http_framing.specs.FillLaws.{whole_front}
-use Rattle.http_framing.specs.Sections.{IsOpenSection}
 
 fields_length : (fields : List Field) → All IsField fields → 3 * length fields ≤ length (flat_map print_field fields)
 fields_length [] h = omega arith
@@ -34,7 +33,7 @@ section_room p room enough (front, rest, parts, fields, reads, over) =
       length-append front rest,
       length-append front (print_end lf),
       length-append (print_section fields lf) [],
-      length-append (flat_map print_field fields) (print_end lf)
+      length-append (flat_map print_field fields) (print_end lf),
     )
 
 pub whole_section : (buffer bytes : List ℕ) (headers : List HeaderSpan) (len count : ℕ) (fields : List Field) (last : LineEnd) → bytes ≡ take trailer_limit buffer → len ≤ length bytes

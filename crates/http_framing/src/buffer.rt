@@ -107,7 +107,7 @@ impl Buffer {
     }
 
     /// What stands at the front of the bytes, judged by the first 16,384 of them.
-    pub fn judge(&mut self, alloc: Global) -> Judged
+    pub(crate) fn judge(&mut self, alloc: Global) -> Judged
         ensures kept { self.new ≡ self.old }
         ensures judged { JudgedIs self.old result }
     {

@@ -14,8 +14,8 @@ mod texts;
 pub use buffer::{Buffer, Fill};
 pub use heads::{HeadEnd, take_head};
 pub use http_messages::{Framing, HeadFault};
-pub use sections::Section;
 pub use rules::{closes, expects_continue, is_head, judge_head};
+pub use sections::Section;
 
 #[cfg(test)]
 mod tests;

@@ -1,0 +1,4 @@
+pub mod PartMoves
+pub mod LineFronts
+pub mod PieceLaws
+pub mod BodyRests

@@ -1,0 +1,14 @@
+use Rattle.std.proofs.Common.{◌≡◌, ◌-◌, ◌<◌, ◌≤◌, [], length}
+use Rattle.http_bodies.specs.Parts.{Moved}
+use Rattle.http_bodies.proofs.parts.take_part.Given as goal
+
+abbrev pub invariant-reading : goal.invariant-reading
+invariant-reading g l = record {
+  moved : Moved l.fn.body.items l.body.items l.fn.buffer l.buffer (g.S.Source.taken l.fn.source) (g.S.Source.taken l.source) (g.S.Source.left l.fn.source) (g.S.Source.left l.source);
+  count : g.S.Source.faults l.source ≡ g.S.Source.faults l.fn.source;
+  within : length l.body.items ≤ l.whole;
+  used : length l.body.items < l.whole → l.buffer ≡ [];
+}
+
+abbrev pub decreases-reading : goal.decreases-reading
+decreases-reading g l = l.whole - length l.body.items

@@ -1,0 +1,12 @@
+use Rattle.std.proofs.Common.{◌≡◌, ◌-◌, length}
+use Rattle.http_framing.specs.Fills.{Adds}
+use Rattle.http_bodies.proofs.trailers.take_trailers.Given as goal
+
+abbrev pub invariant-reading : goal.invariant-reading
+invariant-reading g l = record {
+  adds : Adds l.fn.buffer l.buffer (g.S.Source.taken l.fn.source) (g.S.Source.taken l.source) (g.S.Source.left l.fn.source) (g.S.Source.left l.source);
+  count : g.S.Source.faults l.source ≡ g.S.Source.faults l.fn.source;
+}
+
+abbrev pub decreases-reading : goal.decreases-reading
+decreases-reading g l = 16384 - length l.buffer

@@ -1,0 +1,48 @@
+-- What a call that takes a body leaves, and what it answers, by the bytes that it has seen: those that the
+-- buffer held before the call, and those that it read.
+use Rattle.std.specs.Prelude.{◌≡◌, ◌≤◌, ℕ, List, ◌++◌, IfSome, ⊤}
+use Rattle.std.specs.declared.option.Option.{Option}
+use Rattle.std.specs.Io.KnownBytes.{Appends, Consumes, IsAtEnd}
+use Rattle.outer_ends.specs.Causes.{Rose}
+use Rattle.http_messages.specs.declared.framings.Framing.{Framing}
+use Rattle.http_messages.specs.declared.framings.Framing.TheVariants.{Empty, Length, Chunked}
+use Rattle.http_model.specs.Framings.{body_limit}
+use Rattle.http_model.specs.Bodies.{ReadsBody, IsCutBody, IsBadChunked, IsLargeChunked}
+use Rattle.http_bodies.specs.declared.bodies.BodyEnd.{BodyEnd}
+use Rattle.http_bodies.specs.declared.bodies.BodyEnd.TheVariants as body
+
+-- a length is within the limit (of this project)
+abbrev pub FitsLimit : Framing → Type 0
+FitsLimit Empty = ⊤
+FitsLimit (Length n) = n ≤ body_limit
+FitsLimit Chunked = ⊤
+
+-- the answer, where these bytes were seen, and now these are left in the source and those in the buffer
+abbrev pub BodyOn : Framing → List ℕ → Option (List ℕ) → List ℕ → BodyEnd → Type 0
+BodyOn framing seen left now (body.Body b) = ReadsBody framing seen b now
+BodyOn framing seen left now body.CutShort = IsAtEnd left × IsCutBody framing seen
+BodyOn framing seen left now (body.BadChunk place) = (framing ≡ Chunked) × IsBadChunked seen place
+BodyOn framing seen left now body.TooLarge = (framing ≡ Chunked) × IsLargeChunked seen
+BodyOn framing seen left now body.ReadFault = IsCutBody framing seen
+BodyOn framing seen left now body.NoMemory = ⊤
+
+-- what moved, and the answer
+pub record TakesBody (framing : Framing) (old now : List ℕ) (taken taken_now left left_now : Option (List ℕ)) (end : BodyEnd) : Type 0 where
+  pub bytes : List ℕ
+  pub taken_more : Appends taken taken_now bytes
+  pub left_less : Consumes left left_now bytes
+  pub verdict : BodyOn framing (old ++ bytes) left_now now end
+
+-- a fault is answered exactly where the count rose, or stands at the greatest `u64`
+abbrev pub BodyCause : ℕ → ℕ → BodyEnd → Type 0
+BodyCause before now body.ReadFault = Rose before now
+BodyCause before now end = now ≡ before
+
+-- the answer by all that stood there: what the buffer held, and what was left
+abbrev pub BodyOfRest : Framing → List ℕ → List ℕ → Option (List ℕ) → BodyEnd → Type 0
+BodyOfRest framing rest now left (body.Body b) = IfSome left (λ more. ReadsBody framing rest b (now ++ more))
+BodyOfRest framing rest now left body.CutShort = IsCutBody framing rest
+BodyOfRest framing rest now left (body.BadChunk place) = (framing ≡ Chunked) × IsBadChunked rest place
+BodyOfRest framing rest now left body.TooLarge = (framing ≡ Chunked) × IsLargeChunked rest
+BodyOfRest framing rest now left body.ReadFault = ⊤
+BodyOfRest framing rest now left body.NoMemory = ⊤

@@ -1,0 +1,41 @@
+-- A chunk line at the front of a buffer (RFC 9112, section 7.1).
+use Rattle.std.specs.Prelude.{◌≡◌, ◌<◌, ◌≤◌, ℕ, List, length, take, drop}
+use Rattle.std.specs.declared.option.Option.{Option}
+use Rattle.std.specs.Io.KnownBytes.{IsAtEnd}
+use Rattle.httparse.specs.Grammar.{ChunkLine, print_chunk_line, chunk_size, HasNoChunkLine, NeverHasChunkLine, MayBecomeChunkLine}
+use Rattle.outer_ends.specs.Causes.{Rose}
+use Rattle.http_model.specs.Bodies.{chunk_line_limit, TakesChunkLine, IsBadLine}
+use Rattle.http_bodies.specs.declared.lines.Line.{Line}
+use Rattle.http_bodies.specs.declared.lines.Line.TheVariants as kind
+use Rattle.http_bodies.specs.declared.lines.LineEnd.{LineEnd}
+use Rattle.http_bodies.specs.declared.lines.LineEnd.TheVariants as end
+
+-- the bytes begin with a chunk line within its limit, of so many bytes, which says that size
+pub record HasLine (bytes : List ℕ) (len size : ℕ) : Type 0 where
+  pub line : ChunkLine
+  pub takes : TakesChunkLine bytes line (drop len bytes)
+  pub len_is : len ≡ length (print_chunk_line line)
+  pub within : len ≤ length bytes
+  pub size_is : size ≡ chunk_size line
+
+-- no chunk line begins the first bytes, and one still can
+pub record IsOpenLine (bytes : List ℕ) : Type 0 where
+  pub none : HasNoChunkLine bytes
+  pub may : MayBecomeChunkLine bytes
+
+abbrev pub LineIs : List ℕ → Line → Type 0
+LineIs buffer (kind.Whole len size) = HasLine buffer len size
+LineIs buffer kind.Open = IsOpenLine (take chunk_line_limit buffer)
+LineIs buffer kind.Never = HasNoChunkLine (take chunk_line_limit buffer) × NeverHasChunkLine (take chunk_line_limit buffer)
+
+-- the answer, where the buffer holds these bytes
+abbrev pub LineOn : List ℕ → Option (List ℕ) → LineEnd → Type 0
+LineOn buffer left (end.Line len size) = HasLine buffer len size
+LineOn buffer left end.Bad = IsBadLine buffer
+LineOn buffer left end.Cut = (length buffer < chunk_line_limit) × IsOpenLine buffer × IsAtEnd left
+LineOn buffer left end.Fault = (length buffer < chunk_line_limit) × IsOpenLine buffer
+
+-- a fault is answered exactly where the count rose, or stands at the greatest `u64`
+abbrev pub LineCause : ℕ → ℕ → LineEnd → Type 0
+LineCause before now end.Fault = Rose before now
+LineCause before now e = now ≡ before

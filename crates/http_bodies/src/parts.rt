@@ -1,0 +1,59 @@
+ghost use Rattle.std.specs.Prelude.{◌≡◌, ◌+◌, ◌≤◌, length, OnOk, OnErr};
+ghost use Rattle.http_bodies.specs.Parts.{Moves, TakesPart, PartCause};
+
+use http_framing::{Buffer, Fill};
+use ident_rules::NoMemory;
+use outer_ends::Source;
+
+/// What was found where some bytes should stand.
+#[derive(Clone, Copy, Debug, PartialEq, Eq)]
+pub enum PartEnd {
+    /// As many bytes.
+    Whole,
+    /// The input ended before.
+    Cut,
+    /// The source failed before.
+    Fault,
+    /// There was no memory for them.
+    NoMemory,
+}
+
+// Moves bytes of the buffer to the end of a body that is to have so many.
+fn move_some(buffer: &mut Buffer, body: &mut Vec<u8>, size: usize) -> Result<(), NoMemory>
+    requires { length body.old.items ≤ size }
+    ensures moves { OnOk result (Moves size buffer.old buffer.new body.old.items body.new.items) }
+    ensures kept { OnErr result ((buffer.new ≡ buffer.old) × (body.new.items ≡ body.old.items)) }
+{
+    let count = (size - body.len()).min(buffer.as_slice().len());
+    body.extend_from_slice(&buffer.as_slice()[..count])?;
+    buffer.advance(count);
+    Ok(())
+}
+
+/// Moves the next so many bytes of the buffer and the source to the end of a body.
+pub fn take_part<S: Source>(
+    source: &mut S,
+    buffer: &mut Buffer,
+    body: &mut Vec<u8>,
+    size: usize,
+) -> PartEnd
+    requires { length body.old.items + size ≤ 1048576 }
+    ensures takes { TakesPart size body.old.items body.new.items buffer.old buffer.new (S.taken source.old) (S.taken source.new) (S.left source.old) (S.left source.new) result }
+    ensures cause { PartCause (S.faults source.old) (S.faults source.new) result }
+{
+    let whole = body.len() + size;
+    if move_some(buffer, body, whole).is_err() {
+        return PartEnd::NoMemory;
+    }
+    'reading: while body.len() < whole {
+        match buffer.fill(source) {
+            Fill::More => (),
+            Fill::End => return PartEnd::Cut,
+            Fill::Failed => return PartEnd::Fault,
+        }
+        if move_some(buffer, body, whole).is_err() {
+            return PartEnd::NoMemory;
+        }
+    }
+    PartEnd::Whole
+}

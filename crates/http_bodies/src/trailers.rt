@@ -1,0 +1,42 @@
+ghost use Rattle.http_framing.specs.Fills.{Adds};
+ghost use Rattle.http_bodies.specs.Trailers.{TrailersOn, TrailersCause};
+
+use http_framing::{Buffer, Fill, Section};
+use outer_ends::Source;
+
+/// What was found where trailers should stand.
+#[derive(Clone, Copy, Debug, PartialEq, Eq)]
+pub enum TrailersEnd {
+    /// A trailer section of so many bytes, with the line that ends it.
+    Trailers(usize),
+    /// No trailer section.
+    Bad,
+    /// The input ended before the section did.
+    Cut,
+    /// The source failed before.
+    Fault,
+}
+
+/// Reads until a trailer section of at most 16,384 bytes is at the front of the buffer, where it stays.
+pub fn take_trailers<S: Source>(source: &mut S, buffer: &mut Buffer) -> TrailersEnd
+    ensures adds { Adds buffer.old buffer.new (S.taken source.old) (S.taken source.new) (S.left source.old) (S.left source.new) }
+    ensures trailers { TrailersOn buffer.new (S.left source.new) result }
+    ensures cause { TrailersCause (S.faults source.old) (S.faults source.new) result }
+{
+    'reading: loop {
+        match buffer.judge_section() {
+            Section::Whole(len) => return TrailersEnd::Trailers(len),
+            Section::Never => return TrailersEnd::Bad,
+            Section::Open => {
+                if 16384 <= buffer.as_slice().len() {
+                    return TrailersEnd::Bad;
+                }
+            }
+        }
+        match buffer.fill(source) {
+            Fill::More => (),
+            Fill::End => return TrailersEnd::Cut,
+            Fill::Failed => return TrailersEnd::Fault,
+        }
+    }
+}
