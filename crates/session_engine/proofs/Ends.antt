@@ -1,17 +1,14 @@
 -- Messages that were answered, one after another, and the end behind them.
-use Rattle.std.proofs.Common.{◌≡◌, ℕ, ◌+◌, ◌<◌, ◌≤◌, Bool, true, false, List, [], ◌∷◌, ◌++◌, length, refl, sym, ap, subst, ◌∙◌, arith, append_assoc, append-nil, length-append, ◌⊎◌, inl, inr, Ok, Err, Some, None}
-use Rattle.std.specs.Prelude.{IsTrue, IsFalse, All, IfSome}
-use Rattle.std.specs.List.{flat_map}
+use Rattle.std.proofs.Common.{◌≡◌, ℕ, ◌+◌, Bool, List, [], ◌∷◌, ◌++◌, refl, sym, ap, subst, ◌∙◌, append_assoc, append-nil, ◌⊎◌, inl, inr, Some, None}
+use Rattle.std.specs.Prelude.{IsTrue, IsFalse, IfSome}
 use Rattle.std.proofs.lemmas.Grind.{flat_map-append}
 use Rattle.std.proofs.lemmas.List.Elements.{All-append, All-nil, All-cons}
 use Rattle.std.specs.declared.option.Option.{Option}
-use Rattle.std.specs.Io.KnownBytes.{Appends, Consumes, IsAtEnd}
-use Rattle.http_messages.specs.declared.messages.Message.{Message}
+use Rattle.std.specs.Io.KnownBytes.{Consumes, IsAtEnd}
 use Rattle.http_messages.specs.declared.ends.SessionEnd.{SessionEnd}
 use Rattle.http_messages.specs.declared.ends.SessionEnd.TheVariants.{Closed, Refused, CutShort, ReadFault, WriteFault, NoMemory, Worn}
 use Rattle.http_model.specs.Requests.{ReadsMessage}
 use Rattle.http_model.specs.Exchanges.{Exchange, IsAnswer, Runs, closes_by, StaysOpen, LastCloses, sent_by, text_of, entries_of}
-use Rattle.http_model.specs.Rests.{IsBetween, IsCut, IsRefused, IsEarly}
 use Rattle.http_model.specs.Served.{RefusalText, EndsEarly, EndsTask, CanBeCut, in_reply, in_refusal, in_last, EndIs, read_at, Served}
 use Rattle.http_model.specs.Laws.{ReadStays}
 use Rattle.task_forms.specs.declared.tasks.Entry.{Entry}

@@ -1,24 +1,20 @@
 -- The exits of the call that takes one message.
-use Rattle.std.proofs.Common.{◌≡◌, ℕ, ◌+◌, ◌<◌, ◌≤◌, Bool, true, false, List, [], ◌∷◌, ◌++◌, length, refl, sym, ap, subst, ◌∙◌, arith, append_assoc, append-nil, length-append, ◌⊎◌, inl, inr, Ok, Err, Result}
+use Rattle.std.proofs.Common.{◌≡◌, ℕ, ◌<◌, Bool, true, false, List, [], ◌++◌, length, refl, sym, ap, subst, ◌∙◌, append_assoc, ◌⊎◌, inl, inr, Ok, Err}
 use Rattle.std.specs.Prelude.{if◌then◌else◌}
 use Rattle.std.specs.declared.option.Option.{Option}
-use Rattle.std.specs.Io.KnownBytes.{Appends, Consumes, IsAtEnd}
+use Rattle.std.specs.Io.KnownBytes.{Appends}
 use Rattle.outer_ends.specs.Streams.{AppendsFront}
 use Rattle.outer_ends.specs.StreamLaws.{appends_none, appends_then, consumes_then}
 use Rattle.http_messages.specs.declared.messages.Message.{Message}
 use Rattle.http_messages.specs.declared.framings.Framing.{Framing}
 use Rattle.http_messages.specs.declared.framings.HeadFault.{HeadFault}
-use Rattle.http_messages.specs.declared.framings.RefusedRest.{RefusedRest}
 use Rattle.http_messages.specs.declared.framings.RefusedRest.TheVariants.{Hopeless, TooLarge, TooMany, Head, BadChunk, LargeBody}
 use Rattle.http_messages.specs.ReplyText.{interim_text}
-use Rattle.http_model.specs.Heads.{ReadsHead, IsOpen, head_limit, field_limit, IsEmptyLines}
+use Rattle.http_model.specs.Heads.{IsOpen, head_limit}
 use Rattle.http_model.specs.Blanks.{empty_lines}
-use Rattle.http_model.specs.Messages.{IsMessageHead, FitsLimit}
 use Rattle.http_model.specs.Framings.{framing_of, expects_continue, interim_of, is_head}
 use Rattle.http_model.specs.Bodies.{ReadsBody}
-use Rattle.http_model.specs.Requests.{ReadsWholeHead, ReadsMessage}
-use Rattle.http_model.specs.Rests.{Accepts, IsBetween, IsCut, IsEarly}
-use Rattle.http_model.specs.Served.{IsProperPrefix}
+use Rattle.http_model.specs.Rests.{Accepts, IsBetween, IsCut}
 use Rattle.http_model.specs.Laws.{HeadsDecided, ReadStays}
 use Rattle.http_framing.specs.Taken.{VerdictOn, TakesHead}
 use Rattle.http_framing.specs.declared.heads.HeadEnd.TheVariants as head

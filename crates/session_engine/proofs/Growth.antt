@@ -1,5 +1,5 @@
 -- What is read stays read, of exchanges and of heads that are accepted.
-use Rattle.std.proofs.Common.{◌≡◌, ℕ, List, [], ◌∷◌, ◌++◌, ap}
+use Rattle.std.proofs.Common.{ℕ, List, [], ◌∷◌, ◌++◌, ap}
 use Rattle.http_messages.specs.declared.messages.Message.{Message}
 use Rattle.http_messages.specs.declared.framings.Framing.{Framing}
 use Rattle.http_model.specs.Exchanges.{Exchange, Runs}

@@ -1,24 +1,21 @@
 -- Steps, one after another.
-use Rattle.std.proofs.Common.{◌≡◌, ℕ, ◌+◌, ◌<◌, ◌≤◌, Bool, true, false, List, [], ◌∷◌, ◌++◌, length, refl, sym, ap, subst, ◌∙◌, arith, append_assoc, append-nil, length-append, ◌⊎◌, inl, inr, Ok, Err, Some, None}
+use Rattle.std.proofs.Common.{◌≡◌, ℕ, ◌<◌, false, List, [], ◌++◌, sym, ap, subst, ◌∙◌, append_assoc, append-nil, Some, None}
 use Rattle.std.specs.Prelude.{IfSome}
 use Rattle.std.specs.declared.option.Option.{Option}
-use Rattle.std.specs.Io.KnownBytes.{Appends, Consumes, IsAtEnd}
-use Rattle.outer_ends.specs.Causes.{Rose}
+use Rattle.std.specs.Io.KnownBytes.{Appends, Consumes}
 use Rattle.outer_ends.specs.StreamLaws.{appends_none, appends_then, consumes_none, consumes_then}
-use Rattle.http_messages.specs.declared.messages.Message.{Message}
 use Rattle.http_messages.specs.declared.ends.SessionEnd.{SessionEnd}
 use Rattle.http_messages.specs.declared.ends.SessionEnd.TheVariants.{Closed, Refused, CutShort, ReadFault, WriteFault, NoMemory, Worn}
 use Rattle.http_model.specs.Framings.{interim_of}
-use Rattle.http_model.specs.Served.{Served, RunsOut}
+use Rattle.http_model.specs.Served.{RunsOut}
 use Rattle.http_model.specs.Laws.{ReadStays}
 use Rattle.task_forms.specs.declared.tasks.Task.{Task}
-use Rattle.session_engine.specs.declared.sessions.Step.{Step}
 use Rattle.session_engine.specs.declared.sessions.Step.TheVariants as step
 use Rattle.session_engine.specs.declared.sessions.Next.{Next}
 use Rattle.session_engine.specs.declared.sessions.Next.TheVariants as next
 use Rattle.session_engine.specs.Plans.{TaskPlans}
 use Rattle.session_engine.specs.States.{SessionState}
-use Rattle.session_engine.specs.Seen.{Answers, RanOut, Asks, EndOn, Settles, StepSees, NextSees, EndCause, EndOver, EndServes, NextServes}
+use Rattle.session_engine.specs.Seen.{Answers, RanOut, Asks, EndOn, StepSees, NextSees, EndCause, EndOver, NextServes}
 use Rattle.session_engine.proofs.Ends.{answers_none, answers_then, answers_more, settles_then, served_over}
 
 -- from old to now, messages were answered with fixed replies

@@ -1,11 +1,9 @@
 -- A session over a desk, so far.
-use Rattle.std.proofs.Common.{◌≡◌, ℕ, ◌+◌, ◌-◌, ◌<◌, ◌≤◌, Bool, true, false, List, [], ◌∷◌, ◌++◌, length, refl, sym, ap, subst, ◌∙◌, arith, append_assoc, append-nil, length-append, ◌⊎◌, inl, inr, Ok, Err, Some, None}
-use Rattle.std.specs.Prelude.{IsTrue, IsFalse, IfSome}
+use Rattle.std.proofs.Common.{◌≡◌, ℕ, ◌+◌, ◌-◌, ◌<◌, ◌≤◌, Bool, true, false, List, [], ◌∷◌, ◌++◌, length, refl, sym, ap, subst, ◌∙◌, arith, append_assoc, append-nil, inl, inr, Some, None}
+use Rattle.std.specs.Prelude.{IsTrue, IfSome}
 use Rattle.std.proofs.lemmas.Bool.{false≢true}
 use Rattle.std.specs.declared.option.Option.{Option}
-use Rattle.std.specs.Io.KnownBytes.{Appends, Consumes, IsAtEnd}
-use Rattle.outer_ends.specs.Causes.{Rose}
-use Rattle.outer_ends.specs.Streams.{AppendsFront}
+use Rattle.std.specs.Io.KnownBytes.{Appends, Consumes}
 use Rattle.outer_ends.specs.StreamLaws.{appends_none, appends_then, consumes_none, consumes_then}
 use Rattle.http_messages.specs.declared.messages.Message.{Message}
 use Rattle.http_messages.specs.declared.messages.Reply.{Reply}
@@ -15,9 +13,9 @@ use Rattle.http_messages.specs.declared.ends.SessionEnd.TheVariants.{Closed, Ref
 use Rattle.http_messages.specs.ReplyText.{reply_text, unavailable_text, stop_text}
 use Rattle.http_model.specs.Framings.{closes, interim_of, is_head}
 use Rattle.http_model.specs.Requests.{ReadsMessage}
-use Rattle.http_model.specs.Exchanges.{Planned, planned_task, Exchange, IsAnswer, Runs, sent_for, sent_by}
+use Rattle.http_model.specs.Exchanges.{Planned, planned_task, Exchange, IsAnswer, Runs, sent_for}
 use Rattle.http_model.specs.Rests.{IsEarly}
-use Rattle.http_model.specs.Served.{IsProperPrefix, EndsTask, CanBeCut, in_reply, in_last, EndIs, Served}
+use Rattle.http_model.specs.Served.{EndsTask, in_reply, in_last}
 use Rattle.http_model.specs.Laws.{ReadStays}
 use Rattle.world_cells.specs.World.{World}
 use Rattle.task_forms.specs.declared.tasks.Task.{Task}
@@ -31,9 +29,9 @@ use Rattle.task_forms.specs.declared.tasks.Plan.{Plan}
 use Rattle.session_engine.specs.Plans.{TaskPlans, plans_of}
 use Rattle.session_engine.specs.States.{SessionState}
 use Rattle.session_engine.specs.Finishing.{Finishes, Stops}
-use Rattle.session_engine.specs.Seen.{Answers, RanOut, Asks, EndOn, IsStable, Settles, NextSees, Replies, Serves}
+use Rattle.session_engine.specs.Seen.{Answers, RanOut, Settles, NextSees, Replies, Serves}
 use Rattle.session_engine.proofs.Ends.{answers_none, answers_one, answers_then, answers_more, settles_at, settles_last, settles_then, no_exchange, served_told}
-use Rattle.session_engine.proofs.Steps.{early_of, prefix_behind, few_more, exchange_of, sent_same}
+use Rattle.session_engine.proofs.Steps.{early_of, prefix_behind, few_more, exchange_of}
 
 -- what a desk stands for after a number and a world
 abbrev pub Standing : Type 1

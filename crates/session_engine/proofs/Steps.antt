@@ -1,11 +1,10 @@
 -- The exits of one step.
-use Rattle.std.proofs.Common.{◌≡◌, ◌≢◌, ℕ, ◌+◌, ◌<◌, ◌≤◌, Bool, true, false, ◌||◌, eqb, eq-eqb, List, [], ◌∷◌, ◌++◌, length, refl, sym, ap, subst, ◌∙◌, arith, append_assoc, append-nil, length-append, ◌⊎◌, inl, inr, Ok, Err, Some, None}
+use Rattle.std.proofs.Common.{◌≡◌, ◌≢◌, ℕ, ◌+◌, ◌<◌, ◌≤◌, Bool, true, false, ◌||◌, eqb, eq-eqb, List, [], ◌++◌, length, refl, sym, ap, subst, ◌∙◌, arith, append_assoc, length-append, ◌⊎◌, inl, inr, Some, None}
 use Rattle.std.specs.Prelude.{IsTrue, IsFalse}
-use Rattle.std.proofs.lemmas.Bool.{false≢true, eqb-true}
+use Rattle.std.proofs.lemmas.Bool.{false≢true}
 use Rattle.std.specs.declared.option.Option.{Option}
-use Rattle.std.specs.Io.KnownBytes.{Appends, Consumes, IsAtEnd}
-use Rattle.outer_ends.specs.Streams.{AppendsFront}
-use Rattle.outer_ends.specs.StreamLaws.{appends_none, appends_then}
+use Rattle.std.specs.Io.KnownBytes.{Appends, IsAtEnd}
+use Rattle.outer_ends.specs.StreamLaws.{appends_then}
 use Rattle.http_messages.specs.declared.messages.Message.{Message}
 use Rattle.http_messages.specs.declared.messages.Reply.{Reply}
 use Rattle.http_messages.specs.declared.framings.Framing.TheVariants.{Chunked}
@@ -14,12 +13,12 @@ use Rattle.http_messages.specs.declared.framings.RefusedRest.TheVariants as reas
 use Rattle.http_messages.specs.declared.ends.SessionEnd.{SessionEnd}
 use Rattle.http_messages.specs.declared.ends.SessionEnd.TheVariants.{Closed, Refused, CutShort, ReadFault, WriteFault, NoMemory, Worn}
 use Rattle.http_messages.specs.ReplyText.{reply_text, unavailable_text}
-use Rattle.http_model.specs.Framings.{closes, framing_of, interim_of, is_head, expects_continue}
+use Rattle.http_model.specs.Framings.{closes, interim_of, is_head}
 use Rattle.http_model.specs.Requests.{ReadsMessage}
-use Rattle.http_model.specs.Exchanges.{planned_reply, Planned, Exchange, IsAnswer, Runs, closes_by, sent_for, sent_by, text_of, entries_of}
-use Rattle.http_model.specs.Rests.{Accepts, IsBetween, IsCut, IsRefused, IsEarly}
+use Rattle.http_model.specs.Exchanges.{planned_reply, Planned, Exchange, IsAnswer, sent_for}
+use Rattle.http_model.specs.Rests.{IsRefused, IsEarly}
 use Rattle.http_model.specs.Refusals.{refusal_of}
-use Rattle.http_model.specs.Served.{IsProperPrefix, RefusalText, CanBeCut, in_reply, in_refusal, in_last, EndIs, Served}
+use Rattle.http_model.specs.Served.{IsProperPrefix, in_reply, in_refusal, in_last, EndIs}
 use Rattle.task_forms.specs.declared.tasks.Task.{Task}
 use Rattle.task_forms.specs.declared.tasks.Entry.{Entry}
 use Rattle.session_engine.specs.declared.messages.Taken.{Taken}
@@ -30,7 +29,7 @@ use Rattle.session_engine.specs.declared.sessions.Step.TheVariants as step
 use Rattle.session_engine.specs.Plans.{TaskPlans}
 use Rattle.session_engine.specs.States.{SessionState}
 use Rattle.session_engine.specs.Finishing.{Refuses}
-use Rattle.session_engine.specs.Seen.{MessageOn, TakesMessage, Answers, RanOut, EndOn, IsStable, Settles, StepOn, StepSees, Replies}
+use Rattle.session_engine.specs.Seen.{TakesMessage, Answers, RanOut, EndOn, IsStable, Settles, StepSees, Replies}
 use Rattle.session_engine.proofs.Heads.{interim_same}
 use Rattle.session_engine.proofs.Ends.{answers_none, answers_one, settles_at, settles_last, no_exchange}
 

@@ -1,7 +1,7 @@
 -- What the last text of a session is.
-use Rattle.std.specs.Prelude.{◌≡◌, ℕ, Bool, true, List, ◌++◌}
+use Rattle.std.specs.Prelude.{◌≡◌, ℕ, Bool, true, List}
 use Rattle.std.specs.declared.option.Option.{Option}
-use Rattle.std.specs.Io.KnownBytes.{Appends, Keeps}
+use Rattle.std.specs.Io.KnownBytes.{Appends}
 use Rattle.outer_ends.specs.Causes.{Rose}
 use Rattle.outer_ends.specs.Streams.{AppendsFront}
 use Rattle.http_messages.specs.declared.messages.Reply.{Reply}

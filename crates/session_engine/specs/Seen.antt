@@ -1,6 +1,6 @@
 -- What one call of a session did, by the bytes that it has seen: those that were read and not used before it, and
 -- those that it took. So it is said of any source, and of any cut.
-use Rattle.std.specs.Prelude.{◌≡◌, ◌⊎◌, ℕ, ◌+◌, ◌<◌, ◌≤◌, Bool, true, false, List, [], ◌∷◌, ◌++◌, length, IsTrue, IsFalse, None, Some, IfSome, Result, OnOk, OnErr, ⊤}
+use Rattle.std.specs.Prelude.{◌≡◌, ◌⊎◌, ℕ, ◌+◌, ◌<◌, Bool, false, List, [], ◌++◌, length, IsTrue, IsFalse, None, Some, IfSome, ⊤}
 use Rattle.std.specs.declared.option.Option.{Option}
 use Rattle.std.specs.Io.KnownBytes.{Appends, Consumes, IsAtEnd}
 use Rattle.outer_ends.specs.Causes.{Rose}
@@ -9,11 +9,10 @@ use Rattle.http_messages.specs.declared.messages.Message.{Message}
 use Rattle.http_messages.specs.declared.messages.Reply.{Reply}
 use Rattle.http_messages.specs.declared.framings.Framing.{Framing}
 use Rattle.http_messages.specs.declared.framings.Framing.TheVariants.{Chunked}
-use Rattle.http_messages.specs.declared.framings.RefusedRest.{RefusedRest}
 use Rattle.http_messages.specs.declared.framings.RefusedRest.TheVariants.{BadChunk, LargeBody}
 use Rattle.http_messages.specs.declared.ends.SessionEnd.{SessionEnd}
-use Rattle.http_messages.specs.declared.ends.SessionEnd.TheVariants.{Closed, Refused, CutShort, ReadFault, WriteFault, NoMemory, Worn}
-use Rattle.http_messages.specs.ReplyText.{reply_text, unavailable_text}
+use Rattle.http_messages.specs.declared.ends.SessionEnd.TheVariants.{Closed, CutShort, ReadFault, WriteFault, NoMemory}
+use Rattle.http_messages.specs.ReplyText.{reply_text}
 use Rattle.http_model.specs.Framings.{closes, interim_of, is_head}
 use Rattle.http_model.specs.Bodies.{ReadsBody, IsCutBody, IsBadChunked, IsLargeChunked}
 use Rattle.http_model.specs.Requests.{ReadsMessage}

@@ -1,4 +1,4 @@
-use Rattle.std.proofs.Common.{◌≡◌, refl, ◌∙◌, ◌-◌, ◌<◌, None, Some}
+use Rattle.std.proofs.Common.{refl, ◌∙◌, None}
 use Rattle.session_engine.proofs.Serving.{serving_none, serve_end, serve_out, serve_worn, asking_of, serve_sent, serving_sent, replies_of, falls, refused_as, own_entries}
 use Rattle.session_engine.proofs.drives.serve.Goals as goal
 

@@ -1,4 +1,4 @@
-use Rattle.std.proofs.Common.{◌≡◌, ◌-◌, ◌<◌, ℕ}
+use Rattle.std.proofs.Common.{◌≡◌, ◌-◌}
 use Rattle.session_engine.specs.Plans.{plans_of}
 use Rattle.session_engine.proofs.Serving.{Serving}
 use Rattle.session_engine.proofs.drives.serve.Given as goal

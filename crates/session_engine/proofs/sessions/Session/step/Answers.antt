@@ -1,7 +1,6 @@
-use Rattle.std.proofs.Common.{◌≡◌, ◌∙◌, ◌<◌, sym, ap, refl, subst, ℕ}
+use Rattle.std.proofs.Common.{◌∙◌, ◌<◌, sym, ap, refl, subst}
 use Rattle.session_engine.specs.Plans.{as_planned}
 use Rattle.session_engine.specs.States.{SessionState}
-use Rattle.session_engine.specs.Seen.{StepSees}
 use Rattle.session_engine.proofs.Steps.{step_plan_fails, step_no_memory, step_cut, step_read_fault, step_write_fault, step_refused, step_answered, step_replied, along}
 use Rattle.session_engine.proofs.sessions.Session.step.Goals as goal
 
