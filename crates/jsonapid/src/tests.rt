@@ -5,15 +5,20 @@ use outer_ends::{MemoryOpener, MemorySink, MemorySource};
 use std::alloc::Global;
 use std::test::Fail;
 
-const POST_AND_GET: &[u8] = b"POST /notes HTTP/1.1\r\nHost: h\r\nContent-Type: application/vnd.api+json\r\nContent-Length: 55\r\n\r\n{\"data\":{\"type\":\"notes\",\"attributes\":{\"text\":\"hello\"}}}GET /notes/1 HTTP/1.1\r\nHost: h\r\n\r\n";
+const POST_AND_GET: &[u8] =
+    b"POST /notes HTTP/1.1\r\nHost: h\r\nContent-Type: application/vnd.api+json\r\nContent-Length: 55\r\n\r\n{\"data\":{\"type\":\"notes\",\"attributes\":{\"text\":\"hello\"}}}GET /notes/1 HTTP/1.1\r\nHost: h\r\n\r\n";
 
-const CREATED_AND_FOUND: &[u8] = b"HTTP/1.1 201 Created\r\nVary: Accept\r\nContent-Type: application/vnd.api+json\r\nContent-Length: 92\r\nLocation: /notes/1\r\n\r\n{\"data\":{\"attributes\":{\"text\":\"hello\"},\"id\":\"1\",\"links\":{\"self\":\"/notes/1\"},\"type\":\"notes\"}}HTTP/1.1 200 OK\r\nVary: Accept\r\nContent-Type: application/vnd.api+json\r\nContent-Length: 92\r\n\r\n{\"data\":{\"attributes\":{\"text\":\"hello\"},\"id\":\"1\",\"links\":{\"self\":\"/notes/1\"},\"type\":\"notes\"}}";
+const CREATED_AND_FOUND: &[u8] =
+    b"HTTP/1.1 201 Created\r\nVary: Accept\r\nContent-Type: application/vnd.api+json\r\nContent-Length: 92\r\nLocation: /notes/1\r\n\r\n{\"data\":{\"attributes\":{\"text\":\"hello\"},\"id\":\"1\",\"links\":{\"self\":\"/notes/1\"},\"type\":\"notes\"}}HTTP/1.1 200 OK\r\nVary: Accept\r\nContent-Type: application/vnd.api+json\r\nContent-Length: 92\r\n\r\n{\"data\":{\"attributes\":{\"text\":\"hello\"},\"id\":\"1\",\"links\":{\"self\":\"/notes/1\"},\"type\":\"notes\"}}";
 
-const NOT_FOUND: &[u8] = b"HTTP/1.1 404 Not Found\r\nVary: Accept\r\nContent-Type: application/vnd.api+json\r\nContent-Length: 68\r\n\r\n{\"errors\":[{\"code\":\"not-found\",\"status\":\"404\",\"title\":\"Not found\"}]}";
+const NOT_FOUND: &[u8] =
+    b"HTTP/1.1 404 Not Found\r\nVary: Accept\r\nContent-Type: application/vnd.api+json\r\nContent-Length: 68\r\n\r\n{\"errors\":[{\"code\":\"not-found\",\"status\":\"404\",\"title\":\"Not found\"}]}";
 
-const NOT_BUILT: &[u8] = b"HTTP/1.1 501 Not Implemented\r\nVary: Accept\r\nContent-Type: application/vnd.api+json\r\nContent-Length: 68\r\n\r\n{\"errors\":[{\"code\":\"not-built\",\"status\":\"501\",\"title\":\"Not built\"}]}";
+const NOT_BUILT: &[u8] =
+    b"HTTP/1.1 501 Not Implemented\r\nVary: Accept\r\nContent-Type: application/vnd.api+json\r\nContent-Length: 68\r\n\r\n{\"errors\":[{\"code\":\"not-built\",\"status\":\"501\",\"title\":\"Not built\"}]}";
 
-const BAD_MESSAGE: &[u8] = b"HTTP/1.1 400 Bad Request\r\nVary: Accept\r\nContent-Type: application/vnd.api+json\r\nContent-Length: 78\r\nConnection: close\r\n\r\n{\"errors\":[{\"code\":\"bad-message\",\"status\":\"400\",\"title\":\"Malformed message\"}]}";
+const BAD_MESSAGE: &[u8] =
+    b"HTTP/1.1 400 Bad Request\r\nVary: Accept\r\nContent-Type: application/vnd.api+json\r\nContent-Length: 78\r\nConnection: close\r\n\r\n{\"errors\":[{\"code\":\"bad-message\",\"status\":\"400\",\"title\":\"Malformed message\"}]}";
 
 /// Runs the command on one word, and answers its status and what was written.
 fn run(
@@ -31,13 +36,7 @@ fn run(
         vec![in alloc; failing.0]?,
     );
     let mut sink = MemorySink::new(alloc, vec![in alloc; failing.1]?);
-    let status = pipe_command(
-        alloc,
-        words.as_slice(),
-        &mut opener,
-        &mut source,
-        &mut sink,
-    );
+    let status = pipe_command(alloc, words.as_slice(), &mut opener, &mut source, &mut sink);
     Ok((status, sink))
 }
 
@@ -48,7 +47,12 @@ fn answers_by_the_table(rt: HostRuntime) {
         (POST_AND_GET, 1, CREATED_AND_FOUND, 0),
         (b"", 65_536, b"", 0),
         (b"GET /art", 65_536, b"", 4),
-        (b"GET /notes/7 HTTP/1.1\r\nHost: h\r\n\r\n", 65_536, NOT_FOUND, 0),
+        (
+            b"GET /notes/7 HTTP/1.1\r\nHost: h\r\n\r\n",
+            65_536,
+            NOT_FOUND,
+            0,
+        ),
         (
             b"POST /notes HTTP/1.1\r\nHost: h\r\nContent-Type: application/vnd.api+json\r\nContent-Length: 2\r\n\r\n{}",
             65_536,
