@@ -1,5 +1,5 @@
 -- What the store answers to the tasks that are built, and the worlds that they leave.
-use Rattle.std.proofs.Common.{◌≡◌, ℕ, ◌+◌, ◌<◌, ◌≤◌, ◌==◌, Bool, true, false, cond, List, [], ◌∷◌, refl, sym, ap, ◌∙◌, subst, arith, Some, None, Ok, Option, Result}
+use Rattle.std.proofs.Common.{◌≡◌, ℕ, ◌+◌, ◌≤◌, ◌==◌, Bool, true, false, cond, List, [], ◌∷◌, refl, sym, ap, ◌∙◌, arith, Some, None, Ok, Option}
 use Rattle.std.specs.Prelude.{decimal, unwrap_or, option_map, nat_eq, if◌then◌else◌, find as first_with}
 use Rattle.std.specs.Ordering.{nat_cmp, is_eq}
 use Rattle.std.specs.Cmp.{tied_itself}
@@ -10,7 +10,6 @@ use Rattle.http_messages.specs.declared.messages.Content.TheVariants.{Plain}
 use Rattle.error_objects.specs.declared.codes.Code.TheVariants as code
 use Rattle.error_objects.specs.Refusals.{refusal}
 use Rattle.error_objects.specs.ErrorReply.{error_reply}
-use Rattle.error_objects.specs.declared.refusals.Refusal.{Refusal}
 use Rattle.ident_rules.specs.Key.{key_cmp, key_cmp_total}
 use Rattle.resource_schema.specs.Kinds.{notes}
 use Rattle.resource_schema.specs.declared.values.AttrValue.TheVariants as value
@@ -22,9 +21,9 @@ use Rattle.request_model.specs.Queries.{no_query}
 use Rattle.store_model.specs.Valid.{last_next}
 use Rattle.store_model.specs.Change.{with_row, with_next}
 use Rattle.store_model.specs.CellLaws.{row-with_row}
-use Rattle.store_model.specs.Run.{Ran, run}
+use Rattle.store_model.specs.Run.{run}
 use Rattle.store_model.specs.Document.{row_document}
-use Rattle.store_model.specs.Answer.{answer, effect, document_reply, created_reply, run_reply, run_world}
+use Rattle.store_model.specs.Answer.{answer, effect, document_reply}
 use Rattle.jsonapid.specs.declared.note_rows.Note.{Note}
 use Rattle.jsonapid.specs.NoteRows.{note_key, note_row, note_entries, note_world}
 use Rattle.jsonapid.specs.NoteTasks.{fetching, creating, found_reply}

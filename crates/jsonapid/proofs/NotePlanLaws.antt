@@ -1,6 +1,6 @@
 -- Parts of messages, and which tasks are planned.
-use Rattle.std.proofs.Common.{◌≡◌, ℕ, suc, ◌+◌, ◌<◌, ◌≤◌, ◌==◌, Bool, true, false, cond, List, [], ◌∷◌, length, take, drop, refl, sym, ap, ◌∙◌, subst, arith, Some, None, Ok, Err, Option, Result, map}
-use Rattle.std.specs.Prelude.{◌&&◌, nat_lt, nat_le, nat_eq, option_map, if◌then◌else◌, String, IsTrue, codes, option_and_then}
+use Rattle.std.proofs.Common.{◌≡◌, ℕ, suc, ◌<◌, ◌≤◌, ◌==◌, Bool, true, false, List, [], ◌∷◌, length, drop, refl, sym, ap, ◌∙◌, subst, arith, Some, None, Err, Option}
+use Rattle.std.specs.Prelude.{◌&&◌, nat_lt, nat_le, option_map, if◌then◌else◌, String, IsTrue, codes, option_and_then}
 use Rattle.std.specs.Result.{result_ok}
 use Rattle.std.specs.declared.alloc.Global.{Global}
 use Rattle.std.proofs.lemmas.Bool.Decides.{nat_tests}
@@ -18,7 +18,7 @@ use Rattle.request_model.specs.Words.{some_if}
 use Rattle.request_model.specs.Plans.{is_fetch}
 use Rattle.request_model.specs.Options.{◌>>=◌}
 use Rattle.jsonapid.specs.NoteTasks.{fetching, creating, IsNoteTask}
-use Rattle.jsonapid.specs.NotePlans.{has_members, path_of, id_of_path, resource_of, attributes_of, text_of, text_of_data, text_of_body, is_post, task_of}
+use Rattle.jsonapid.specs.NotePlans.{has_members, path_of, id_of_path, resource_of, attributes_of, text_of_data, text_of_body, is_post, task_of}
 
 -- ---- ids
 

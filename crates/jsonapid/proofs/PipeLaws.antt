@@ -1,8 +1,8 @@
 -- A connection makes at most one entry for each of at most 1,000,000 messages, so its store is never worn.
-use Rattle.std.proofs.Common.{◌≡◌, ◌≢◌, ◌⊎◌, ℕ, zero, suc, ◌+◌, ◌<◌, ◌≤◌, Bool, true, false, List, [], ◌∷◌, ◌++◌, length, refl, sym, ap, ◌∙◌, subst, inl, inr, arith, length-append, eqb, eq-eqb, Some, None, Option}
+use Rattle.std.proofs.Common.{◌≡◌, ◌≢◌, ◌⊎◌, ℕ, ◌+◌, ◌<◌, ◌≤◌, Bool, true, false, List, [], ◌∷◌, ◌++◌, length, refl, sym, ap, ◌∙◌, subst, inl, inr, arith, length-append, eqb, eq-eqb, Some, None, Option}
 use Rattle.std.proofs.lemmas.Bool.{false≢true}
 use Rattle.std.proofs.lemmas.List.Elements.{All-head, All-tail}
-use Rattle.std.specs.Prelude.{◌||◌, ◌^◌, IfSome, IsTrue, IsFalse, All}
+use Rattle.std.specs.Prelude.{◌||◌, IfSome, IsTrue, IsFalse}
 use Rattle.http_messages.specs.declared.messages.Message.{Message}
 use Rattle.http_messages.specs.declared.messages.Reply.{Reply}
 use Rattle.http_messages.specs.declared.ends.SessionEnd.{SessionEnd}

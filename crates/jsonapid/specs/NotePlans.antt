@@ -1,6 +1,6 @@
 -- The messages that are built: GET and HEAD of a note, and POST of one (of this project, within JSON:API 1.1, "Fetching
 -- Resources" and "Creating Resources"). Every other message is told that it is not built.
-use Rattle.std.specs.Prelude.{ℕ, ◌≤◌, ◌==◌, ◌&&◌, ◌||◌, nat_le, Bool, false, option_and_then, if◌then◌else◌, List, [], ◌∷◌, codes, length, drop, take, filter, Option, Some, None, option_map}
+use Rattle.std.specs.Prelude.{ℕ, ◌==◌, ◌&&◌, nat_le, Bool, false, option_and_then, if◌then◌else◌, List, codes, length, drop, take, filter, Option, Some, None, option_map}
 use Rattle.std.specs.List.{list_any}
 use Rattle.std.specs.Str.{bytes_eq, str_eq_ignore_ascii_case}
 use Rattle.serde_json.specs.Data.{Data, object}

@@ -14,7 +14,6 @@ use Rattle.task_forms.specs.declared.operations.Operation.{Operation}
 use Rattle.task_forms.specs.declared.operations.Operation.TheVariants.{Create}
 use Rattle.task_forms.specs.Meaning.{Meaning}
 use Rattle.request_model.specs.Queries.{no_query}
-use Rattle.store_model.specs.Resource.{object_of}
 use Rattle.store_model.specs.Answer.{row_data, ok_reply}
 use Rattle.store_model.specs.StoreMeaning.{meaning_of}
 use Rattle.http_messages.specs.declared.messages.Content.TheVariants.{Plain}

@@ -33,11 +33,11 @@ fn resource_of(document: &Value) -> Option<&Value>
 }
 
 /// The attributes of a new note.
-fn attributes_of(data: &Value) -> Option<&Value>
-    ensures { option_map (λ v. view v.now) result ≡ attributes_of (view data.now) }
+fn attributes_of(resource: &Value) -> Option<&Value>
+    ensures { option_map (λ v. view v.now) result ≡ attributes_of (view resource.now) }
 {
-    let kind = as_text(member(data, "type")?)?;
-    let attributes = member(data, "attributes")?;
+    let kind = as_text(member(resource, "type")?)?;
+    let attributes = member(resource, "attributes")?;
     if kind == "notes" && has_members(attributes, 1) {
         Some(attributes)
     } else {

@@ -20,14 +20,16 @@ const NOT_BUILT: &[u8] =
 const BAD_MESSAGE: &[u8] =
     b"HTTP/1.1 400 Bad Request\r\nVary: Accept\r\nContent-Type: application/vnd.api+json\r\nContent-Length: 78\r\nConnection: close\r\n\r\n{\"errors\":[{\"code\":\"bad-message\",\"status\":\"400\",\"title\":\"Malformed message\"}]}";
 
-/// Runs the command on one word, and answers its status and what was written.
+/// Runs the command on one word, over an input that comes whole or byte by byte, and answers its status and what was
+/// written.
 fn run(
     alloc: Global,
     word: &str,
     input: &[u8],
-    piece: usize,
+    whole: bool,
     failing: (u64, u64),
 ) -> Result<(u8, MemorySink), NoMemory> {
+    let piece = if whole { 65_536 } else { 1 };
     let words = vec![in alloc; Text::from_str(alloc, word)?]?;
     let mut opener = MemoryOpener::new(alloc, Vec::new(alloc), Vec::new(alloc));
     let mut source = MemorySource::new(
@@ -42,32 +44,32 @@ fn run(
 
 #[test]
 fn answers_by_the_table(rt: HostRuntime) {
-    let rows: [(&[u8], usize, &[u8], u8); 7] = [
-        (POST_AND_GET, 65_536, CREATED_AND_FOUND, 0),
-        (POST_AND_GET, 1, CREATED_AND_FOUND, 0),
-        (b"", 65_536, b"", 0),
-        (b"GET /art", 65_536, b"", 4),
+    let rows: [(&[u8], bool, &[u8], u8); 7] = [
+        (POST_AND_GET, true, CREATED_AND_FOUND, 0),
+        (POST_AND_GET, false, CREATED_AND_FOUND, 0),
+        (b"", true, b"", 0),
+        (b"GET /art", true, b"", 4),
         (
             b"GET /notes/7 HTTP/1.1\r\nHost: h\r\n\r\n",
-            65_536,
+            true,
             NOT_FOUND,
             0,
         ),
         (
             b"POST /notes HTTP/1.1\r\nHost: h\r\nContent-Type: application/vnd.api+json\r\nContent-Length: 2\r\n\r\n{}",
-            65_536,
+            true,
             NOT_BUILT,
             0,
         ),
         (
             b"POST /notes HTTP/1.1\r\nHost: h\r\nContent-Length: 5\r\nTransfer-Encoding: chunked\r\n\r\nGET /notes HTTP/1.1\r\nHost: h\r\n\r\n",
-            65_536,
+            true,
             BAD_MESSAGE,
             3,
         ),
     ];
-    for (at, (input, piece, output, wanted)) in rows.iter().enumerate() {
-        match run(rt.alloc(), "pipe", input, *piece, (0, 0)) {
+    for (at, (input, whole, output, wanted)) in rows.iter().enumerate() {
+        match run(rt.alloc(), "pipe", input, *whole, (0, 0)) {
             Ok((status, sink)) => {
                 assert_eq!(rt; status, *wanted, "row {at}");
                 assert_eq!(rt; sink.written(), *output, "row {at}");
@@ -85,7 +87,7 @@ fn tells_faults_and_words(rt: HostRuntime) {
         ("serve", (0, 0), b"jsonapid: words\n", 2),
     ];
     for (at, (word, failing, output, wanted)) in rows.iter().enumerate() {
-        match run(rt.alloc(), word, POST_AND_GET, 65_536, *failing) {
+        match run(rt.alloc(), word, POST_AND_GET, true, *failing) {
             Ok((status, sink)) => {
                 assert_eq!(rt; status, *wanted, "row {at}");
                 assert_eq!(rt; sink.written(), *output, "row {at}");

@@ -1,4 +1,4 @@
-use Rattle.std.proofs.Common.{◌≡◌, ℕ, ◌==◌, List, sym, ap, ◌∙◌, map, length}
+use Rattle.std.proofs.Common.{◌==◌, sym, ap, ◌∙◌, map}
 use Rattle.std.proofs.lemmas.List.{length-map}
 use Rattle.serde_json.specs.View.{view}
 use Rattle.jsonapid.proofs.NotePlanLaws.{has_members-of}

@@ -1,4 +1,4 @@
-use Rattle.std.proofs.Common.{◌≡◌, true, false, sym, ap, ◌∙◌, subst, Ok, Err, Result}
+use Rattle.std.proofs.Common.{◌≡◌, true, false, ap, ◌∙◌, Ok, Err, Result}
 use Rattle.std.specs.Prelude.{OnOk, insert, slice_set}
 use Rattle.jsonapid.specs.NoteRows.{place_of, is_at, note_entries}
 use Rattle.jsonapid.proofs.NoteLemmas.{replaced, inserted}

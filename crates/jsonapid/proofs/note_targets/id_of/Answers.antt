@@ -1,6 +1,6 @@
-use Rattle.std.proofs.Common.{◌≡◌, ℕ, Bool, true, false, List, sym, ap, ◌∙◌, subst, None, refl}
+use Rattle.std.proofs.Common.{◌≡◌, ℕ, Bool, true, false, List, ap, ◌∙◌, None, refl}
 use Rattle.std.specs.Result.{result_ok}
-use Rattle.ident_rules.specs.Id.{is_id, read_id}
+use Rattle.ident_rules.specs.Id.{is_id}
 use Rattle.ident_rules.specs.IdLaws.{IsUtf8-is_id}
 use Rattle.request_model.specs.Words.{some_if}
 use Rattle.jsonapid.proofs.NotePlanLaws.{id_or_none}

@@ -1,7 +1,6 @@
-use Rattle.std.proofs.Common.{◌≡◌, ◌+◌, arith, List, [], length, refl, sym, ap, ◌∙◌, subst}
+use Rattle.std.proofs.Common.{◌≡◌, ◌+◌, arith, [], length, refl, sym, ap, ◌∙◌, subst}
 use Rattle.resource_schema.specs.Kinds.{notes}
 use Rattle.world_cells.specs.World.{empty_world}
-use Rattle.task_forms.specs.declared.tasks.Entry.{Entry}
 use Rattle.task_forms.specs.Meaning.{IsLegal}
 use Rattle.session_engine.specs.Plans.{plans_of}
 use Rattle.jsonapid.specs.NoteTasks.{note_meaning}

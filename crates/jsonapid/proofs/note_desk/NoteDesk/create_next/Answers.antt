@@ -1,4 +1,4 @@
-use Rattle.std.proofs.Common.{◌≡◌, ℕ, ◌+◌, ◌<◌, ◌≤◌, ◌==◌, false, List, [], ◌∷◌, sym, ap, ◌∙◌, subst, arith, Some, None}
+use Rattle.std.proofs.Common.{◌≡◌, ℕ, ◌==◌, false, List, [], ◌∷◌, sym, ap, ◌∙◌, arith, Some, None}
 use Rattle.std.specs.Prelude.{decimal}
 use Rattle.std.proofs.lemmas.Bool.Decides.{nat_tests}
 use Rattle.std.specs.FinMap.Entries.{put}
@@ -9,10 +9,9 @@ use Rattle.task_forms.specs.declared.tasks.ReplyForm.TheVariants.{Created}
 use Rattle.task_forms.specs.declared.operations.Operation.TheVariants.{Create}
 use Rattle.world_cells.specs.World.{World, next_id}
 use Rattle.store_model.specs.Valid.{last_next}
-use Rattle.store_model.specs.Answer.{answer, effect, created_reply, run_reply, run_world}
-use Rattle.jsonapid.specs.NoteRows.{note_key, note_row, note_entries, note_world}
-use Rattle.jsonapid.specs.NoteTasks.{creating}
-use Rattle.jsonapid.proofs.NoteAnswers.{run_creates, next_of, made, made_world, created_world}
+use Rattle.store_model.specs.Answer.{created_reply, run_reply, run_world}
+use Rattle.jsonapid.specs.NoteRows.{note_key, note_row, note_entries}
+use Rattle.jsonapid.proofs.NoteAnswers.{run_creates, next_of, made_world, created_world}
 use Rattle.jsonapid.proofs.note_desk.NoteDesk.create_next.Goals as goal
 
 pub returns-clause-done : goal.returns-clause-done

@@ -1,4 +1,4 @@
-use Rattle.std.proofs.Common.{◌≡◌, ℕ, List, sym, ap, ◌∙◌, subst, Some, None}
+use Rattle.std.proofs.Common.{◌≡◌, List, sym, ap, ◌∙◌, subst, Some, None}
 use Rattle.std.specs.Prelude.{IfOk, nat_eq, find as first_with}
 use Rattle.std.specs.Cmp.Lexicographic.{pointwise}
 use Rattle.http_messages.specs.declared.messages.Reply.{Reply}
