@@ -14,6 +14,8 @@ mod note_targets;
 mod notices;
 mod pipes;
 #[cfg(test)]
+mod refusals;
+#[cfg(test)]
 mod tests;
 
 use ident_rules::{NoMemory, Text};

@@ -11,8 +11,14 @@ const POST_AND_GET: &[u8] =
 const CREATED_AND_FOUND: &[u8] =
     b"HTTP/1.1 201 Created\r\nVary: Accept\r\nContent-Type: application/vnd.api+json\r\nContent-Length: 92\r\nLocation: /notes/1\r\n\r\n{\"data\":{\"attributes\":{\"text\":\"hello\"},\"id\":\"1\",\"links\":{\"self\":\"/notes/1\"},\"type\":\"notes\"}}HTTP/1.1 200 OK\r\nVary: Accept\r\nContent-Type: application/vnd.api+json\r\nContent-Length: 92\r\n\r\n{\"data\":{\"attributes\":{\"text\":\"hello\"},\"id\":\"1\",\"links\":{\"self\":\"/notes/1\"},\"type\":\"notes\"}}";
 
+const CREATED: &[u8] =
+    b"HTTP/1.1 201 Created\r\nVary: Accept\r\nContent-Type: application/vnd.api+json\r\nContent-Length: 92\r\nLocation: /notes/1\r\n\r\n{\"data\":{\"attributes\":{\"text\":\"hello\"},\"id\":\"1\",\"links\":{\"self\":\"/notes/1\"},\"type\":\"notes\"}}";
+
 const NOT_FOUND: &[u8] =
     b"HTTP/1.1 404 Not Found\r\nVary: Accept\r\nContent-Type: application/vnd.api+json\r\nContent-Length: 68\r\n\r\n{\"errors\":[{\"code\":\"not-found\",\"status\":\"404\",\"title\":\"Not found\"}]}";
+
+const CLOSING_HEAD: &[u8] =
+    b"HTTP/1.1 404 Not Found\r\nVary: Accept\r\nContent-Type: application/vnd.api+json\r\nContent-Length: 68\r\nConnection: close\r\n\r\n";
 
 const NOT_BUILT: &[u8] =
     b"HTTP/1.1 501 Not Implemented\r\nVary: Accept\r\nContent-Type: application/vnd.api+json\r\nContent-Length: 68\r\n\r\n{\"errors\":[{\"code\":\"not-built\",\"status\":\"501\",\"title\":\"Not built\"}]}";
@@ -22,7 +28,7 @@ const BAD_MESSAGE: &[u8] =
 
 /// Runs the command on one word, over an input that comes whole or byte by byte, and answers its status and what was
 /// written.
-fn run(
+pub(crate) fn run(
     alloc: Global,
     word: &str,
     input: &[u8],
@@ -44,7 +50,7 @@ fn run(
 
 #[test]
 fn answers_by_the_table(rt: HostRuntime) {
-    let rows: [(&[u8], bool, &[u8], u8); 7] = [
+    let rows: [(&[u8], bool, &[u8], u8); 11] = [
         (POST_AND_GET, true, CREATED_AND_FOUND, 0),
         (POST_AND_GET, false, CREATED_AND_FOUND, 0),
         (b"", true, b"", 0),
@@ -67,6 +73,30 @@ fn answers_by_the_table(rt: HostRuntime) {
             BAD_MESSAGE,
             3,
         ),
+        (
+            b"POST /notes HTTP/1.1\r\nHost: h\r\nContent-Type: application/vnd.api+json\r\nTransfer-Encoding: CHUNKED\r\n\r\n37\r\n{\"data\":{\"type\":\"notes\",\"attributes\":{\"text\":\"hello\"}}}\r\n0\r\nHost: x\r\n\r\n",
+            false,
+            CREATED,
+            0,
+        ),
+        (
+            b"\r\n\r\nGET HTTP://h/notes/7 HTTP/1.1\r\nHost: h\r\n\r\n",
+            true,
+            NOT_FOUND,
+            0,
+        ),
+        (
+            b"HEAD /notes/7 HTTP/1.1\r\nHost: h\r\nConnection: close\r\n\r\nGET /notes/7 HTTP/1.1\r\nHost: h\r\n\r\n",
+            true,
+            CLOSING_HEAD,
+            0,
+        ),
+        (
+            b"POST /notes HTTP/1.1\r\nHost: h\r\nExpect: 100-continue\r\nContent-Length: 5\r\n\r\nhel",
+            true,
+            b"HTTP/1.1 100 Continue\r\n\r\n",
+            4,
+        ),
     ];
     for (at, (input, whole, output, wanted)) in rows.iter().enumerate() {
         match run(rt.alloc(), "pipe", input, *whole, (0, 0)) {
@@ -83,7 +113,7 @@ fn answers_by_the_table(rt: HostRuntime) {
 fn tells_faults_and_words(rt: HostRuntime) {
     let rows: [(&str, (u64, u64), &[u8], u8); 3] = [
         ("pipe", (1, 0), b"", 1),
-        ("pipe", (0, 1), b"", 1),
+        ("pipe", (0, 2), CREATED, 1),
         ("serve", (0, 0), b"jsonapid: words\n", 2),
     ];
     for (at, (word, failing, output, wanted)) in rows.iter().enumerate() {
