@@ -1,7 +1,7 @@
 -- Lists that are read up to the first error.
 use Rattle.std.specs.Prelude.{◌≡◌, ◌<◌, ◌≤◌, ℕ, suc, List, [], ◌∷◌, ◌++◌, map, take, drop, length, get_or, Result, Ok, Err, refl}
 use Rattle.std.proofs.Common.{ap, sym, ◌∙◌}
-use Rattle.std.proofs.lemmas.List.{take_all, map-append, take-append-drop}
+use Rattle.std.proofs.lemmas.List.{take_all, map-append, take-append-drop, append_assoc, append-nil}
 use Rattle.std.proofs.Math.Seq.{drop-cons}
 use Rattle.request_model.specs.Words.{all_ok, result_map}
 
@@ -30,3 +30,39 @@ module _ {X A E : Type 0} (f : X → Result A E) (items : List X) where
       ap (map f) (sym (take-append-drop n items)) ∙ map-append f (take n items) (drop n items)
       ∙ ap (λ l. l ++ map f (drop n items)) (sym so_far) ∙ ap (λ l. map Ok xs ++ l) rest in
       ap all_ok whole ∙ all_ok-err xs e (map f (drop (suc n) items))
+
+-- what was read, before what is left to be read
+abbrev pub onto : {A E : Type 0} → List A → Result (List A) E → Result (List A) E
+onto xs r = result_map (λ ys. xs ++ ys) r
+
+onto-nil : {A E : Type 0} (r : Result (List A) E) → r ≡ onto [] r
+onto-nil (Ok xs) = refl
+onto-nil (Err e) = refl
+
+onto-first : {A E : Type 0} (xs : List A) (x : A) (r : Result (List A) E) → onto xs (result_map (λ ys. x ∷ ys) r) ≡ onto (xs ++ x ∷ []) r
+onto-first xs x (Ok ys) = ap Ok (sym (append_assoc xs (x ∷ []) ys))
+onto-first xs x (Err e) = refl
+
+-- a loop that sees the items that are left
+module _ {X A E : Type 0} (f : X → Result A E) (items : List X) where
+  -- it begins
+  pub rest-begin : all_ok (map f items) ≡ onto [] (all_ok (map f items))
+  rest-begin = onto-nil (all_ok (map f items))
+
+  module _ (xs : List A) (left : List X) (so_far : all_ok (map f items) ≡ onto xs (all_ok (map f left))) where
+    -- it has read an item
+    pub rest-more : (i : X) (more : List X) (x : A) → left ≡ i ∷ more → f i ≡ Ok x → all_ok (map f items) ≡ onto (xs ++ x ∷ []) (all_ok (map f more))
+    rest-more i more x here good =
+        so_far ∙ ap (λ l. onto xs (all_ok (map f l))) here
+        ∙ ap (λ r. onto xs (all_ok (r ∷ map f more))) good
+        ∙ onto-first xs x (all_ok (map f more))
+
+    -- the next item is refused
+    pub rest-stop : (i : X) (more : List X) (e : E) → left ≡ i ∷ more → f i ≡ Err e → all_ok (map f items) ≡ Err e
+    rest-stop i more e here bad =
+        so_far ∙ ap (λ l. onto xs (all_ok (map f l))) here
+        ∙ ap (λ r. onto xs (all_ok (r ∷ map f more))) bad
+
+    -- none is left
+    pub rest-end : left ≡ [] → all_ok (map f items) ≡ Ok xs
+    rest-end here = so_far ∙ ap (λ l. onto xs (all_ok (map f l))) here ∙ ap Ok (append-nil xs)

@@ -1,7 +1,7 @@
 -- The schema that a JSON value describes, or its first fault (of this project; names as in JSON:API 1.1, "Member Names" and "Fields").
-use Rattle.std.specs.Prelude.{ℕ, ◌==◌, Bool, true, false, not, nat_lt, if◌then◌else◌, List, [], codes, length, map, Option, Some, None, Result, Ok, option_map, option_and_then, ⊤}
+use Rattle.std.specs.Prelude.{ℕ, ◌==◌, Bool, true, false, not, nat_lt, if◌then◌else◌, List, [], codes, length, map, Option, Some, None, Result, Ok, option_map, option_and_then, ⊤, IfSome}
 use Rattle.std.specs.Option.{ok_or}
-use Rattle.std.specs.List.{position}
+use Rattle.std.specs.List.{position, AllByRecursion}
 use Rattle.std.specs.Str.{bytes_eq}
 use Rattle.serde_json.specs.Data.{Data}
 use Rattle.serde_json.specs.Find.{get, as_object, as_bool}
@@ -21,6 +21,7 @@ use Rattle.request_model.specs.Results.{◌>>=◌, ◌>>◌, err_if}
 use Rattle.ident_rules.specs.Name.{is_name}
 use Rattle.request_model.specs.Values.{value_from}
 use Rattle.json_forms.specs.Json.{json_of, members_list, text_at}
+use Rattle.json_forms.specs.Order.{AreAscending}
 use Rattle.json_forms.specs.Pointer.{◌//◌}
 
 -- a fault and its place, a pointer (RFC 6901)
@@ -123,3 +124,21 @@ abbrev pub schema_of_text : List ℕ → Result Schema SchemaFault
 schema_of_text bytes = do
   d ← ok_or (json_of bytes) (fault (codes "/") why.NoJson)
   schema_of d
+
+-- ---- names in byte order, as every value that was read has them
+
+-- where the value is an object, the names of its members strictly rise
+abbrev pub NamesRise : Data → Type 0
+NamesRise d = IfSome (as_object d) AreAscending
+
+-- so do the names of a type's attributes, and of its relationships
+abbrev pub FieldNamesRise : Data → Type 0
+FieldNamesRise d = IfSome (get (codes "attributes") d) NamesRise × IfSome (get (codes "relationships") d) NamesRise
+
+-- so do those of each member's fields
+abbrev pub EachFieldNamesRise : Data → Type 0
+EachFieldNamesRise d = IfSome (as_object d) (λ ms. AllByRecursion (λ m. FieldNamesRise m.1) (members_list ms))
+
+-- so do the names of a file's types, and those of their fields
+abbrev pub SchemaNamesRise : Data → Type 0
+SchemaNamesRise d = IfSome (get (codes "types") d) (λ types. NamesRise types × EachFieldNamesRise types)

@@ -17,15 +17,16 @@ ghost use Rattle.task_forms.specs.declared.tasks.Task.{Task};
 ghost use Rattle.task_forms.specs.Fit.{IsFit};
 ghost use Rattle.request_model.specs.Cursors.{HasUtf8, IsPlaceOf, cursor_text, place_of_cursor};
 ghost use Rattle.request_model.specs.Plans.{is_list, planned, task_of};
-ghost use Rattle.request_model.specs.SchemaFile.{schema_of};
+ghost use Rattle.request_model.specs.SchemaFile.{schema_of, SchemaNamesRise};
 ghost use Rattle.request_model.specs.Targets.{IsKnownTarget, target_of_path};
 
 use json_forms::{read_is_in_order, rendered_is_read_back, rendered_is_utf8, utf8_is_bytes};
 
-/// What is read of a schema file keeps the rules of schemas, where the names of each object stand in byte order, as those
-/// of every value do that was read.
+/// What is read of a schema file keeps the rules of schemas, where the names of its types and fields stand in byte order,
+/// as those of every value do that was read.
 pub fn read_schema_keeps_rules()
-    ensures { (d : Data) (schema : List Kind) → schema_of d ≡ Ok schema → IsInByteOrder d → is_schema schema ≡ true }
+    ensures rules { (d : Data) (schema : List Kind) → schema_of d ≡ Ok schema → SchemaNamesRise d → is_schema schema ≡ true }
+    ensures names { (d : Data) → IsInByteOrder d → SchemaNamesRise d }
 {}
 
 /// A target that a path names is known: its numbers are those of the schema, and its id keeps the rule of ids.
