@@ -23,7 +23,7 @@ use Rattle.resource_schema.specs.SchemaRules.{is_schema, is_kind, is_attribute, 
 use Rattle.request_model.specs.Words.{all_ok}
 use Rattle.request_model.specs.Results.{err_if}
 use Rattle.request_model.specs.Values.{value_from, plain_value}
-use Rattle.request_model.specs.SchemaFile.{form_of, many_of, fault, object_at, fields_at, flag_at, name_fault, default_at, attribute_from, relationship_from, kind_from, schema_of, NamesRise, FieldNamesRise, EachFieldNamesRise, SchemaNamesRise}
+use Rattle.request_model.specs.SchemaFile.{form_of, many_of, fault, object_at, fields_at, flag_at, name_fault, default_at, attribute_from, relationship_from, attributes_at, relationships_at, kind_from, schema_of, NamesRise, FieldNamesRise, EachFieldNamesRise, SchemaNamesRise}
 use Rattle.request_model.proofs.Inversions.{bind-Ok, then-Ok, map-Ok, err_if-Ok, negated, ok_or-Ok, and_then-Some, map-Some, some_if-Some, all_ok-zip}
 use Rattle.request_model.proofs.Zips.{zip-length, zip-right, zip-same, all-always, all-list_all, position-found}
 use Rattle.request_model.proofs.Ascents.{Ascends, name_of, members-ascend, test-from_ascends}
@@ -145,15 +145,15 @@ kind_from-keeps kinds m k order e =
     let p = then-Ok (name_fault reserved_kinds (codes "/types" // m.0) m.0) _ k e in
     let q = then-Ok (object_at (codes "/types" // m.0) (Some m.1)) _ k p.2 in
     let r = bind-Ok (flag_at (codes "/types" // m.0 // codes "client-ids") (get (codes "client-ids") m.1)) _ k q.2 in
-    let s = bind-Ok (fields_at (codes "/types" // m.0 // codes "attributes") 64 (get (codes "attributes") m.1)) _ k r.2 in
-    let t = bind-Ok (all_ok (map (attribute_from (codes "/types" // m.0 // codes "attributes")) s.0)) _ k s.2 in
-    let u = bind-Ok (fields_at (codes "/types" // m.0 // codes "relationships") 32 (get (codes "relationships") m.1)) _ k t.2 in
-    let v = bind-Ok (all_ok (map (relationship_from kinds (map (λ a. a.name) t.0) (codes "/types" // m.0 // codes "relationships")) u.0)) _ k u.2 in
+    let t = bind-Ok (attributes_at (codes "/types" // m.0) m.1) _ k r.2 in
+    let v = bind-Ok (relationships_at kinds (map (λ a. a.name) t.0) (codes "/types" // m.0) m.1) _ k t.2 in
+    let s = bind-Ok (fields_at (codes "/types" // m.0 // codes "attributes") 64 (get (codes "attributes") m.1)) _ t.0 t.1 in
+    let u = bind-Ok (fields_at (codes "/types" // m.0 // codes "relationships") 32 (get (codes "relationships") m.1)) _ v.0 v.1 in
     let named = name-parts reserved_kinds (codes "/types" // m.0) m.0 p.0 p.1 in
     let own = fields_at-ordered _ 64 (get (codes "attributes") m.1) s.0 order.0 s.1 in
     let linked = fields_at-ordered _ 32 (get (codes "relationships") m.1) u.0 order.1 u.1 in
-    let attributes = attributes-keep (codes "/types" // m.0 // codes "attributes") s.0 t.0 own.0 t.1 in
-    let relationships = relationships-keep kinds (map (λ a. a.name) t.0) (codes "/types" // m.0 // codes "relationships") u.0 v.0 linked.0 v.1 in
+    let attributes = attributes-keep (codes "/types" // m.0 // codes "attributes") s.0 t.0 own.0 s.2 in
+    let relationships = relationships-keep kinds (map (λ a. a.name) t.0) (codes "/types" // m.0 // codes "relationships") u.0 v.0 linked.0 u.2 in
     let same : record { name = m.0; client_ids = r.0; attributes = t.0; relationships = v.0 } ≡ k = cc v.2 in
     let few_attributes : nat_le (length t.0) 64 ≡ true = rw attributes.0 own.1 in
     let few_relationships : nat_le (length v.0) 32 ≡ true = rw relationships.0 linked.1 in

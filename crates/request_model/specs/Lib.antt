@@ -14,3 +14,4 @@ pub mod Plans
 pub mod FirstErrors
 pub mod Pieces
 pub mod ListLaws
+pub mod ReadNames

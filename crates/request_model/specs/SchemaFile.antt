@@ -97,6 +97,18 @@ relationship_from kinds attributes group (name, d) = do
 
 -- ---- types
 
+-- the attributes of a type, each in order
+abbrev pub attributes_at : List ℕ → Data → Result (List Attribute) SchemaFault
+attributes_at at d = do
+  own ← fields_at (at // codes "attributes") 64 (get (codes "attributes") d)
+  all_ok (map (attribute_from (at // codes "attributes")) own)
+
+-- the relationships of a type whose attributes have these names, each in order
+abbrev pub relationships_at : List (List ℕ) → List (List ℕ) → List ℕ → Data → Result (List Relationship) SchemaFault
+relationships_at kinds attributes at d = do
+  linked ← fields_at (at // codes "relationships") 32 (get (codes "relationships") d)
+  all_ok (map (relationship_from kinds attributes (at // codes "relationships")) linked)
+
 -- one type: its name, itself as an object, `client-ids`, `attributes`, `relationships`
 abbrev pub kind_from : List (List ℕ) → List ℕ × Data → Result Kind SchemaFault
 kind_from kinds (name, d) = do
@@ -104,10 +116,8 @@ kind_from kinds (name, d) = do
   name_fault reserved_kinds at name
   object_at at (Some d)
   client_ids ← flag_at (at // codes "client-ids") (get (codes "client-ids") d)
-  own ← fields_at (at // codes "attributes") 64 (get (codes "attributes") d)
-  attributes ← all_ok (map (attribute_from (at // codes "attributes")) own)
-  linked ← fields_at (at // codes "relationships") 32 (get (codes "relationships") d)
-  relationships ← all_ok (map (relationship_from kinds (map (λ a. a.name) attributes) (at // codes "relationships")) linked)
+  attributes ← attributes_at at d
+  relationships ← relationships_at kinds (map (λ a. a.name) attributes) at d
   Ok (record { name = name; client_ids = client_ids; attributes = attributes; relationships = relationships })
 
 -- the schema, or the first fault of a walk through the value in byte order of names

@@ -1,0 +1,10 @@
+use Rattle.std.proofs.Common.{◌≡◌, map}
+use Rattle.request_model.specs.Words.{all_ok}
+use Rattle.request_model.specs.FirstErrors.{onto}
+use Rattle.request_model.specs.SchemaFile.{relationship_from}
+use Rattle.document_parts.specs.Walks.{members_in, seen}
+use Rattle.schema_file.proofs.kinds.read_relationships.Given as goal
+
+abbrev pub invariant-loop-name : goal.invariant-loop-name
+invariant-loop-name l =
+    all_ok (map (relationship_from l.kinds (map (λ a. a.name) l.attributes) l.group) (members_in l.fn.members)) ≡ onto l.relationships.items (all_ok (map (relationship_from l.kinds (map (λ a. a.name) l.attributes) l.group) (seen l.name-iterator)))
