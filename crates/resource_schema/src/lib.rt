@@ -4,6 +4,7 @@
 
 mod faults;
 mod kinds;
+mod lookups;
 mod schema;
 mod targets;
 #[cfg(test)]

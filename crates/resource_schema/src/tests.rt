@@ -13,6 +13,21 @@ fn makes_and_copies_the_built_in_schema(rt: HostRuntime) -> Result<(), Fail> {
     assert_eq!(rt; kind.attribute("text"), Some(0));
     assert_eq!(rt; kind.attribute("texts"), None);
     assert_eq!(rt; kind.relationship("text"), None);
+    assert_eq!(rt; schema.kind_name(0), "notes");
+    assert_eq!(rt; schema.kind_name(1), "");
+    assert_eq!(rt; schema.attributes_of(0).len(), 1);
+    assert_eq!(rt; schema.relationships_of(0).len(), 0);
+    assert_eq!(rt; schema.attribute_of(0, "text"), Some(0));
+    assert_eq!(rt; schema.attribute_of(1, "text"), None);
+    assert_eq!(rt; schema.relationship_of(0, "text"), None);
+    assert_eq!(rt;
+        (
+            schema.target_of(0, 0),
+            schema.is_many(0, 0),
+            schema.has_client_ids(0)
+        ),
+        (0, false, false)
+    );
     Ok(())
 }
 
