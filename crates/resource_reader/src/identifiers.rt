@@ -1,0 +1,64 @@
+ghost use Rattle.std.specs.Prelude.{◌≡◌, option_map, ℕ};
+ghost use Rattle.serde_json.specs.View.{view};
+ghost use Rattle.request_model.specs.Documents.{named_in, identifier};
+ghost use Rattle.resource_reader.specs.Reads.{Reads};
+ghost use Rattle.resource_reader.specs.Names.{named_by_name};
+
+use crate::parts::{id_of, text_in};
+use crate::stops::{Stop, bad_document, refuse_in};
+use error_objects::Code;
+use ident_rules::{Key, Text};
+use resource_schema::Schema;
+use serde_json::Value;
+use std::alloc::Global;
+use task_forms::Named;
+
+/// The text that names a resource of a type, before an id is judged.
+#[derive(Clone, Copy, Debug)]
+pub enum NameText<'v> {
+    /// An id.
+    Id(&'v str),
+    /// A local id.
+    Lid(&'v str),
+}
+
+/// What the members `id` and `lid` name, where exactly one of them is a text.
+pub fn name_in(value: &Value) -> Option<NameText<'_>>
+    ensures { (kind : ℕ) → option_map (named_by_name kind) result ≡ named_in kind (view value.now) }
+{
+    match text_in(value, "id") {
+        Some(id) => match text_in(value, "lid") {
+            Some(_) => None,
+            None => Some(NameText::Id(id)),
+        },
+        None => Some(NameText::Lid(text_in(value, "lid")?)),
+    }
+}
+
+/// A resource identifier of a type (JSON:API 1.1, "Resource Identifier Objects").
+pub fn read_identifier(
+    alloc: Global,
+    schema: &Schema,
+    kind: u32,
+    at: &str,
+    value: &Value,
+) -> Result<Named, Stop>
+    ensures { Reads result (identifier schema.now kind at.now (view value.now)) }
+{
+    let Some(word) = text_in(value, "type") else {
+        return Err(bad_document(alloc, at));
+    };
+    let Some(name) = name_in(value) else {
+        return Err(bad_document(alloc, at));
+    };
+    if word != schema.kind_name(kind) {
+        return Err(refuse_in(alloc, Code::WrongTarget, at, "type"));
+    }
+    match name {
+        NameText::Lid(lid) => Ok(Named::Lid(kind, Text::from_str(alloc, lid)?)),
+        NameText::Id(text) => match id_of(text) {
+            Some(id) => Ok(Named::Id(Key { kind, id })),
+            None => Err(refuse_in(alloc, Code::RelatedNotFound, at, "id")),
+        },
+    }
+}

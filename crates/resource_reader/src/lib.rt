@@ -1,0 +1,9 @@
+//! Documents of requests: resource objects and linkages, read to operations, or the first refusal (JSON:API 1.1, "Document
+//! Structure" and "Creating, Updating and Deleting Resources").
+#![tactic(auto)]
+
+mod identifiers;
+mod linkages;
+mod parts;
+mod stops;
+

@@ -1,0 +1,128 @@
+ghost use Rattle.std.specs.Prelude.{◌≡◌, ◌<◌, ◌^◌, length, map, option_map};
+ghost use Rattle.std.specs.List.{enumerate_from};
+ghost use Rattle.serde_json.specs.View.{view};
+ghost use Rattle.request_model.specs.Words.{all_ok};
+ghost use Rattle.request_model.specs.Documents.{to_one, to_many, indexed, linkage};
+ghost use Rattle.resource_reader.specs.Reads.{Reads};
+ghost use Rattle.resource_reader.specs.Arrays.{many_of};
+
+use crate::identifiers::read_identifier;
+use crate::stops::{Stop, bad_document};
+use document_parts::item_pointer;
+use ident_rules::List;
+use resource_schema::Schema;
+use serde_json::Value;
+use std::alloc::Global;
+use task_forms::Member;
+
+/// A to-one linkage: null, or an identifier.
+fn read_to_one(
+    alloc: Global,
+    schema: &Schema,
+    kind: u32,
+    at: &str,
+    value: &Value,
+) -> Result<List<Member>, Stop>
+    ensures { Reads result (to_one schema.now kind at.now (view value.now)) }
+{
+    let mut members = Vec::new(alloc);
+    match value {
+        Value::Null => Ok(List::from_vec(members)),
+        _ => {
+            let named = read_identifier(alloc, schema, kind, at, value)?;
+            members.push(Member { named, index: None })?;
+            Ok(List::from_vec(members))
+        }
+    }
+}
+
+/// An identifier of an array, at its place.
+fn read_indexed(
+    alloc: Global,
+    schema: &Schema,
+    kind: u32,
+    at: &str,
+    place: u32,
+    value: &Value,
+) -> Result<Member, Stop>
+    ensures { Reads result (indexed schema.now kind at.now (place, view value.now)) }
+{
+    let pointer = item_pointer(alloc, at, place)?;
+    let named = read_identifier(alloc, schema, kind, pointer.as_str(), value)?;
+    Ok(Member {
+        named,
+        index: Some(place),
+    })
+}
+
+/// The identifiers of an array, each in order.
+fn read_items(
+    alloc: Global,
+    schema: &Schema,
+    kind: u32,
+    at: &str,
+    values: &[Value],
+) -> Result<List<Member>, Stop>
+    requires few { length values.now < 2 ^ 32 }
+    ensures { Reads result (all_ok (map (indexed schema.now kind at.now) (enumerate_from 0 (map view values.now)))) }
+{
+    let mut members = Vec::new(alloc);
+    for (place, value) in values.iter().enumerate() {
+        match read_indexed(alloc, schema, kind, at, place as u32, value) {
+            Ok(member) => members.push(member)?,
+            Err(stop) => return Err(stop),
+        }
+    }
+    Ok(List::from_vec(members))
+}
+
+/// The identifiers of an array of fewer than 2^32 items.
+fn read_array(
+    alloc: Global,
+    schema: &Schema,
+    kind: u32,
+    at: &str,
+    values: &[Value],
+) -> Result<List<Member>, Stop>
+    ensures { Reads result (many_of schema.now kind at.now (map view values.now)) }
+{
+    if values.len() > 4_294_967_295 {
+        return Err(bad_document(alloc, at));
+    }
+    read_items(alloc, schema, kind, at, values)
+}
+
+/// A to-many linkage: an array of identifiers.
+fn read_to_many(
+    alloc: Global,
+    schema: &Schema,
+    kind: u32,
+    at: &str,
+    value: &Value,
+) -> Result<List<Member>, Stop>
+    ensures { Reads result (to_many schema.now kind at.now (view value.now)) }
+{
+    match value {
+        Value::Array(values) => read_array(alloc, schema, kind, at, values.as_slice()),
+        _ => Err(bad_document(alloc, at)),
+    }
+}
+
+/// The linkage of a relationship, by its type and number (JSON:API 1.1, "Resource Linkage").
+pub fn read_linkage(
+    alloc: Global,
+    schema: &Schema,
+    kind: u32,
+    rel: u32,
+    at: &str,
+    value: &Value,
+) -> Result<List<Member>, Stop>
+    ensures { Reads result (linkage schema.now kind rel at.now (view value.now)) }
+{
+    let target = schema.target_of(kind, rel);
+    if schema.is_many(kind, rel) {
+        read_to_many(alloc, schema, target, at, value)
+    } else {
+        read_to_one(alloc, schema, target, at, value)
+    }
+}
