@@ -3,3 +3,4 @@ mod Cuts
 mod Extensions
 mod Joins
 mod Quoted
+mod TypesByParams

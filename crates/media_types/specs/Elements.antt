@@ -2,9 +2,11 @@
 use Rattle.std.specs.Prelude.{ℕ, ◌||◌, Bool, not, if◌then◌else◌, List, Option, Some, None, filter}
 use Rattle.std.specs.List.{list_any, filter_map}
 use Rattle.request_model.specs.declared.forms.Media.{Media}
+use Rattle.request_model.specs.declared.forms.Param.{Param}
 use Rattle.request_model.specs.Words.{is_any}
 use Rattle.request_model.specs.MediaTypes.{media_of}
 use Rattle.request_model.specs.Negotiation.{is_json_api, is_good, without_weight}
+use Rattle.media_types.specs.TypeParams.{are_good, without_q}
 use Rattle.media_types.specs.declared.accepting.Element.{Element}
 use Rattle.media_types.specs.declared.accepting.Element.TheVariants.{Other, Refused, Accepted}
 
@@ -12,6 +14,11 @@ use Rattle.media_types.specs.declared.accepting.Element.TheVariants.{Other, Refu
 abbrev pub element_of_media : Option Media → Element
 element_of_media None = Other
 element_of_media (Some m) = if is_json_api m then (if is_good (without_weight m) then Accepted else Refused) else Other
+
+-- the same, by the parameters that it has as one of JSON:API
+abbrev pub element_of_params : Option (List Param) → Element
+element_of_params None = Other
+element_of_params (Some params) = if are_good (without_q params) then Accepted else Refused
 
 -- how a text is judged as an element
 abbrev pub element_of : List ℕ → Element

@@ -1,2 +1,4 @@
 pub mod Elements
 pub mod PiecesLeft
+pub mod TypeParams
+pub mod ValuesLeft

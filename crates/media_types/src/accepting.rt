@@ -1,27 +1,29 @@
-ghost use Rattle.std.specs.Prelude.{◌≡◌, ◌∷◌, IfOk, filter, map, not};
+ghost use Rattle.std.specs.Prelude.{◌≡◌, ◌∷◌, IfOk, filter, not};
 ghost use Rattle.std.specs.List.{join_with_byte};
 ghost use Rattle.request_model.specs.Words.{comma};
 ghost use Rattle.request_model.specs.MediaTypes.{unquoted_pieces};
-ghost use Rattle.request_model.specs.Negotiation.{acceptable, is_named, without_weight};
+ghost use Rattle.request_model.specs.Negotiation.{acceptable, is_named};
 ghost use Rattle.media_types.specs.Elements.{accepts, element_of, types_of};
+ghost use Rattle.media_types.specs.TypeParams.{are_good, without_q};
+ghost use Rattle.media_types.specs.ValuesLeft.{values_left};
 
-use crate::fields::values_of;
-use crate::media::read_media;
+use crate::fields::Values;
+use crate::media::json_api_params;
 use crate::pieces::Pieces;
-use crate::types::{is_good, is_json_api, is_named};
+use crate::types::{are_good, is_named};
 use http_messages::Field;
 use ident_rules::{List, NoMemory};
-use request_model::{Media, Param};
+use request_model::Param;
 use std::alloc::Global;
 
-// How an element of Accept is judged.
+/// How an element of Accept is judged.
 #[derive(Clone, Copy)]
 pub enum Element {
-    // It is no media type, or none of JSON:API.
+    /// It is no media type, or none of JSON:API.
     Other,
-    // It is a type of JSON:API that the server does not give.
+    /// It is a type of JSON:API that the server does not give.
     Refused,
-    // It is a type of JSON:API that the server gives.
+    /// It is a type of JSON:API that the server gives.
     Accepted,
 }
 
@@ -33,29 +35,21 @@ fn without_named(name: &[u8], params: Vec<Param>) -> Vec<Param>
     params
 }
 
-// The weight is left aside (RFC 9110, section 12.4.2).
-fn without_weight(media: Media) -> Media
-    ensures { result ≡ without_weight media }
+// Whether parameters are good ones, the weight left aside (RFC 9110, section 12.4.2).
+fn are_accepted(params: List<Param>) -> bool
+    ensures { result ≡ are_good (without_q params) }
 {
-    let Media { main, sub, params } = media;
     let params = without_named(b"q", params.into_vec());
-    Media {
-        main,
-        sub,
-        params: List::from_vec(params),
-    }
+    are_good(params.as_slice())
 }
 
 fn element_of(alloc: Global, text: &[u8]) -> Result<Element, NoMemory>
     ensures { IfOk result (λ e. e ≡ element_of text.now) }
 {
-    let Some(media) = read_media(alloc, text)? else {
+    let Some(params) = json_api_params(alloc, text)? else {
         return Ok(Element::Other);
     };
-    if !is_json_api(&media) {
-        return Ok(Element::Other);
-    }
-    if is_good(&without_weight(media)) {
+    if are_accepted(params) {
         Ok(Element::Accepted)
     } else {
         Ok(Element::Refused)
@@ -78,8 +72,8 @@ fn accepts(alloc: Global, text: &[u8]) -> Result<bool, NoMemory>
 }
 
 // The texts with commas between them.
-fn join(alloc: Global, first: &[u8], others: &[&[u8]]) -> Result<Vec<u8>, NoMemory>
-    ensures { IfOk result (λ v. v.items ≡ join_with_byte comma (first.now ∷ map (λ s. s.now) others.now)) }
+fn join(alloc: Global, first: &[u8], others: Values<'_>) -> Result<Vec<u8>, NoMemory>
+    ensures { IfOk result (λ v. v.items ≡ join_with_byte comma (first.now ∷ values_left others.entry)) }
 {
     let mut joined = Vec::from_slice(alloc, first)?;
     for text in others {
@@ -95,13 +89,10 @@ fn join(alloc: Global, first: &[u8], others: &[&[u8]]) -> Result<Vec<u8>, NoMemo
 pub fn accept_ok(alloc: Global, fields: &[Field]) -> Result<bool, NoMemory>
     ensures { IfOk result (λ b. b ≡ acceptable fields.now) }
 {
-    let values = values_of(alloc, b"accept", fields)?;
-    match values.as_slice() {
-        [] => Ok(true),
-        [value] => accepts(alloc, value),
-        [first, others @ ..] => {
-            let joined = join(alloc, first, others)?;
-            accepts(alloc, joined.as_slice())
-        }
-    }
+    let mut values = Values::new(b"accept", fields);
+    let Some(first) = values.next() else {
+        return Ok(true);
+    };
+    let joined = join(alloc, first, values)?;
+    accepts(alloc, joined.as_slice())
 }

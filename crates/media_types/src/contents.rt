@@ -1,13 +1,15 @@
-ghost use Rattle.std.specs.Prelude.{◌≡◌, IfOk, codes, map};
+ghost use Rattle.std.specs.Prelude.{◌≡◌, IfOk, codes};
 ghost use Rattle.std.specs.List.{list_all};
+ghost use Rattle.request_model.specs.MediaTypes.{media_of};
 ghost use Rattle.request_model.specs.Negotiation.{content, is_identity, needs_atomic, needs_body, serve, serves, values_of};
+ghost use Rattle.media_types.specs.TypeParams.{params_serve};
 
-use crate::fields::{is_of_name, values_of};
-use crate::media::read_media;
-use crate::types::{has_atomic, is_good, is_json_api, same_in_any_case};
+use crate::fields::Values;
+use crate::media::json_api_params;
+use crate::types::{are_good, have_atomic, same_in_any_case};
 use http_messages::Field;
 use ident_rules::NoMemory;
-use request_model::{Judged, Media, Need};
+use request_model::{Judged, Need, Param};
 use std::alloc::Global;
 
 fn needs_body(need: Need) -> bool
@@ -30,35 +32,36 @@ fn needs_atomic(need: Need) -> bool
     }
 }
 
+// Whether a JSON:API type with these parameters serves.
+fn params_serve(need: Need, params: &[Param]) -> bool
+    ensures { result ≡ params_serve need (Some params.now) }
+{
+    are_good(params) && (!needs_atomic(need) || have_atomic(params))
+}
+
 // A JSON:API type has to be a good one, and to name the extension where that is needed; another type, or none, serves
 // where no body is needed (JSON:API 1.1, "Server Responsibilities").
-fn serves(need: Need, found: &Option<Media>) -> bool
-    ensures { result ≡ serves need found.now }
+fn serves(alloc: Global, need: Need, value: &[u8]) -> Result<bool, NoMemory>
+    ensures { IfOk result (λ b. b ≡ serves need (media_of value.now)) }
 {
-    match found {
-        None => !needs_body(need),
-        Some(media) => {
-            if is_json_api(media) {
-                is_good(media) && (!needs_atomic(need) || has_atomic(media))
-            } else {
-                !needs_body(need)
-            }
-        }
+    match json_api_params(alloc, value)? {
+        Some(params) => Ok(params_serve(need, params.as_slice())),
+        None => Ok(!needs_body(need)),
     }
 }
 
 // At most one field Content-Type, whose type serves.
-fn serve(alloc: Global, need: Need, values: &[&[u8]]) -> Result<bool, NoMemory>
-    ensures { IfOk result (λ b. b ≡ serve need (map (λ v. v.now) values.now)) }
+fn serve(alloc: Global, need: Need, fields: &[Field]) -> Result<bool, NoMemory>
+    ensures { IfOk result (λ b. b ≡ serve need (values_of (codes "content-type") fields.now)) }
 {
-    match values {
-        [] => Ok(serves(need, &None)),
-        [value] => {
-            let found = read_media(alloc, value)?;
-            Ok(serves(need, &found))
-        }
-        _ => Ok(false),
+    let mut values = Values::new(b"content-type", fields);
+    let Some(value) = values.next() else {
+        return Ok(!needs_body(need));
+    };
+    if values.next().is_some() {
+        return Ok(false);
     }
+    serves(alloc, need, value)
 }
 
 // No coding (RFC 9110, section 8.4.1).
@@ -72,8 +75,8 @@ fn is_identity(coding: &[u8]) -> bool
 fn is_uncoded(fields: &[Field]) -> bool
     ensures { result ≡ list_all is_identity (values_of (codes "content-encoding") fields.now) }
 {
-    for field in fields {
-        if is_of_name(b"content-encoding", field) && !is_identity(field.value.as_slice()) {
+    for coding in Values::new(b"content-encoding", fields) {
+        if !is_identity(coding) {
             return false;
         }
     }
@@ -85,8 +88,7 @@ fn is_uncoded(fields: &[Field]) -> bool
 pub fn content_ok(alloc: Global, fields: &[Field], need: Need) -> Result<Judged, NoMemory>
     ensures { IfOk result (λ j. j ≡ content fields.now need) }
 {
-    let types = values_of(alloc, b"content-type", fields)?;
-    if !serve(alloc, need, types.as_slice())? {
+    if !serve(alloc, need, fields)? {
         return Ok(Judged::BadType);
     }
     if needs_body(need) && !is_uncoded(fields) {

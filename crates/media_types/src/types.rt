@@ -2,10 +2,11 @@ ghost use Rattle.std.specs.Prelude.{◌≡◌, ◌&&◌, ◌||◌, codes, filter
 ghost use Rattle.std.specs.List.{list_all, list_any};
 ghost use Rattle.std.specs.Str.{str_eq_ignore_ascii_case};
 ghost use Rattle.request_model.specs.Words.{parts_at, is_any, space};
-ghost use Rattle.request_model.specs.Negotiation.{extensions_of, is_atomic, is_good, is_json_api, is_named};
+ghost use Rattle.request_model.specs.Negotiation.{is_atomic, is_named};
+ghost use Rattle.media_types.specs.TypeParams.{are_good, uris_of};
 
 use crate::tokens::is_any;
-use request_model::{Media, Param};
+use request_model::Param;
 
 /// Whether two texts are equal in any case.
 pub fn same_in_any_case(text: &[u8], other: &[u8]) -> bool
@@ -14,12 +15,11 @@ pub fn same_in_any_case(text: &[u8], other: &[u8]) -> bool
     text.eq_ignore_ascii_case(other)
 }
 
-/// Whether this is the media type of JSON:API, in any case (JSON:API 1.1, "JSON:API Media Type").
-pub fn is_json_api(media: &Media) -> bool
-    ensures { result ≡ is_json_api media.now }
+/// Whether a type and its subtype are those of JSON:API, in any case (JSON:API 1.1, "JSON:API Media Type").
+pub fn is_json_api(main: &[u8], sub: &[u8]) -> bool
+    ensures { result ≡ (str_eq_ignore_ascii_case main.now (codes "application") && str_eq_ignore_ascii_case sub.now (codes "vnd.api+json")) }
 {
-    same_in_any_case(media.main.as_str().as_bytes(), b"application")
-        && same_in_any_case(media.sub.as_str().as_bytes(), b"vnd.api+json")
+    same_in_any_case(main, b"application") && same_in_any_case(sub, b"vnd.api+json")
 }
 
 /// Whether a parameter has this name, in any case.
@@ -67,21 +67,21 @@ fn name_atomic(params: &[Param]) -> bool
 }
 
 // Whether no extension is one that is not supported.
-fn has_atomic_alone(media: &Media) -> bool
-    ensures { result ≡ list_all is_atomic (extensions_of media.now) }
+fn have_atomic_alone(params: &[Param]) -> bool
+    ensures { result ≡ list_all is_atomic (uris_of params.now) }
 {
-    name_atomic_alone(media.params.as_slice())
+    name_atomic_alone(params)
 }
 
 /// Whether the extension of the atomic operations is there (JSON:API 1.1, "Extensions").
-pub fn has_atomic(media: &Media) -> bool
-    ensures { result ≡ list_any is_atomic (extensions_of media.now) }
+pub fn have_atomic(params: &[Param]) -> bool
+    ensures { result ≡ list_any is_atomic (uris_of params.now) }
 {
-    name_atomic(media.params.as_slice())
+    name_atomic(params)
 }
 
 // Whether there is no parameter but `ext` and `profile`.
-fn has_known_params(params: &[Param]) -> bool
+fn are_known(params: &[Param]) -> bool
     ensures { result ≡ list_all (λ p. is_named (codes "ext") p || is_named (codes "profile") p) params.now }
 {
     params.iter().all(|param| is_named(b"ext", param) || is_named(b"profile", param))
@@ -89,8 +89,8 @@ fn has_known_params(params: &[Param]) -> bool
 
 /// Whether there is no parameter but `ext` and `profile`, and no extension that is not supported (JSON:API 1.1, "Server
 /// Responsibilities").
-pub fn is_good(media: &Media) -> bool
-    ensures { result ≡ is_good media.now }
+pub fn are_good(params: &[Param]) -> bool
+    ensures { result ≡ are_good params.now }
 {
-    has_known_params(media.params.as_slice()) && has_atomic_alone(media)
+    are_known(params) && have_atomic_alone(params)
 }
