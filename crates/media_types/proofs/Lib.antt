@@ -3,4 +3,3 @@ mod Cuts
 mod Extensions
 mod Joins
 mod Quoted
-mod TypesByParams

@@ -6,7 +6,7 @@ use Rattle.request_model.specs.declared.forms.Quoting.{Quoting}
 use Rattle.request_model.specs.declared.forms.Quoting.TheVariants.{Outside, Within, Escaped}
 use Rattle.request_model.specs.Words.{some_if}
 use Rattle.request_model.specs.MediaTypes.{content_from, with_content, after_byte, is_outside}
-use Rattle.media_types.specs.PiecesLeft.{is_content}
+use Rattle.media_types.specs.ParamPieces.{is_content}
 
 chosen-skip : {A : Type 0} (t : Bool) (x y : A) → not t ≡ false → (if t then x else y) ≡ x
 chosen-skip true x y h = refl
@@ -36,16 +36,8 @@ pub map-push : {A : Type 0} (made : List A) (b : A) (rest : Option (List A))
 map-push made b None = refl
 map-push made b (Some r) = ap Some (sym (append_assoc made (b ∷ []) r))
 
-end-of : (outside : Bool) (made : List ℕ) → option_map (λ r. made ++ r) (some_if outside []) ≡ some_if outside made
-end-of true made = ap Some (append-nil made)
-end-of false made = refl
-
 module _ (text : List ℕ) (at : Quoting) (i : ℕ) (made : List ℕ)
     (so_far : content_from Within text ≡ option_map (λ r. made ++ r) (content_from at (drop i text))) where
-  -- nothing is left
-  pub content-end : length text ≤ i → content_from Within text ≡ some_if (is_outside at) made
-  content-end done = so_far ∙ ap (λ l. option_map (λ r. made ++ r) (content_from at l)) (drop_of_length-le text done) ∙ end-of (is_outside at) made
-
   -- a next byte
   next : (more : i < length text) → content_from Within text ≡ option_map (λ r. made ++ r) (with_content at (get_or text i 0) (content_from (after_byte at (get_or text i 0)) (drop (suc i) text)))
   next more = so_far ∙ ap (λ l. option_map (λ r. made ++ r) (content_from at l)) (drop-cons text i 0 more)

@@ -15,11 +15,6 @@ abbrev pub element_of_media : Option Media → Element
 element_of_media None = Other
 element_of_media (Some m) = if is_json_api m then (if is_good (without_weight m) then Accepted else Refused) else Other
 
--- the same, by the parameters that it has as one of JSON:API
-abbrev pub element_of_params : Option (List Param) → Element
-element_of_params None = Other
-element_of_params (Some params) = if are_good (without_q params) then Accepted else Refused
-
 -- how a text is judged as an element
 abbrev pub element_of : List ℕ → Element
 element_of text = element_of_media (media_of text)

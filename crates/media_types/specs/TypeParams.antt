@@ -24,7 +24,6 @@ are_good params = list_all (λ p. is_named (codes "ext") p || is_named (codes "p
 abbrev pub without_q : List Param → List Param
 without_q params = filter (λ p. not (is_named (codes "q") p)) params
 
--- whether a type serves, by the parameters that it has as one of JSON:API
-abbrev pub params_serve : Need → Option (List Param) → Bool
-params_serve n None = not (needs_body n)
-params_serve n (Some params) = are_good params && (not (needs_atomic n) || list_any is_atomic (uris_of params))
+-- a type of JSON:API with these parameters serves
+abbrev pub params_serve : Need → List Param → Bool
+params_serve n params = are_good params && (not (needs_atomic n) || list_any is_atomic (uris_of params))

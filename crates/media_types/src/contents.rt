@@ -34,7 +34,7 @@ fn needs_atomic(need: Need) -> bool
 
 // Whether a JSON:API type with these parameters serves.
 fn params_serve(need: Need, params: &[Param]) -> bool
-    ensures { result ≡ params_serve need (Some params.now) }
+    ensures { result ≡ params_serve need params.now }
 {
     are_good(params) && (!needs_atomic(need) || have_atomic(params))
 }

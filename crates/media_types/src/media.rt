@@ -38,11 +38,9 @@ pub fn read_media(alloc: Global, text: &[u8]) -> Result<Option<Media>, NoMemory>
     let Some(params) = params_of(alloc, pieces)? else {
         return Ok(None);
     };
-    Ok(Some(Media {
-        main: token_text(alloc, main)?,
-        sub: token_text(alloc, sub)?,
-        params,
-    }))
+    let main = token_text(alloc, main)?;
+    let sub = token_text(alloc, sub)?;
+    Ok(Some(Media { main, sub, params }))
 }
 
 /// The parameters of a text that is a media type of JSON:API; None where it is none, or another one. Takes no memory

@@ -1,7 +1,8 @@
 ghost use Rattle.std.specs.Prelude.{◌≡◌, IfOk};
 ghost use Rattle.request_model.specs.declared.forms.Quoting.TheVariants.{Within};
 ghost use Rattle.request_model.specs.MediaTypes.{content_from, param_of, value_of};
-ghost use Rattle.media_types.specs.PiecesLeft.{is_content, params_of, pieces_left};
+ghost use Rattle.media_types.specs.ParamPieces.{is_content, params_of};
+ghost use Rattle.media_types.specs.PiecesLeft.{pieces_left};
 
 use crate::pieces::{Pieces, after_byte, is_outside};
 use crate::tokens::{halves_at, is_any, is_token, token_text, trim_blanks};
@@ -25,7 +26,7 @@ fn is_content(at: Quoting, byte: u8) -> bool
 fn content_from(alloc: Global, text: &[u8]) -> Result<Option<Bytes>, NoMemory>
     ensures { IfOk result (λ o. o ≡ content_from Within text.now) }
 {
-    let mut content = Vec::new(alloc);
+    let mut content = Vec::with_capacity(alloc, text.len())?;
     let mut at = Quoting::Within;
     for byte in text {
         if is_outside(at) {

@@ -54,30 +54,18 @@ fn any_atomic(uris: &[u8]) -> bool
         .any(|uri| is_atomic(uri))
 }
 
-fn name_atomic_alone(params: &[Param]) -> bool
-    ensures { result ≡ list_all (λ p. not (is_named (codes "ext") p) || list_all is_atomic (filter is_any (parts_at space p.value))) params.now }
-{
-    params.iter().all(|param| !is_named(b"ext", param) || all_atomic(param.value.as_slice()))
-}
-
-fn name_atomic(params: &[Param]) -> bool
-    ensures { result ≡ list_any (λ p. is_named (codes "ext") p && list_any is_atomic (filter is_any (parts_at space p.value))) params.now }
-{
-    params.iter().any(|param| is_named(b"ext", param) && any_atomic(param.value.as_slice()))
-}
-
 // Whether no extension is one that is not supported.
 fn have_atomic_alone(params: &[Param]) -> bool
     ensures { result ≡ list_all is_atomic (uris_of params.now) }
 {
-    name_atomic_alone(params)
+    params.iter().all(|param| !is_named(b"ext", param) || all_atomic(param.value.as_slice()))
 }
 
 /// Whether the extension of the atomic operations is there (JSON:API 1.1, "Extensions").
 pub fn have_atomic(params: &[Param]) -> bool
     ensures { result ≡ list_any is_atomic (uris_of params.now) }
 {
-    name_atomic(params)
+    params.iter().any(|param| is_named(b"ext", param) && any_atomic(param.value.as_slice()))
 }
 
 // Whether there is no parameter but `ext` and `profile`.
