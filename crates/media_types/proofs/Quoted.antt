@@ -1,10 +1,9 @@
 -- The content of a quoted string, as a walk over the bytes makes it.
-use Rattle.std.proofs.Common.{◌≡◌, ℕ, suc, ◌+◌, ◌<◌, ◌≤◌, ◌||◌, ◌==◌, Bool, true, false, List, [], ◌∷◌, ◌++◌, length, drop, get_or, refl, sym, ap, ◌∙◌, arith, append-nil, append_assoc, add-one, drop-cons, drop_of_length-le}
+use Rattle.std.proofs.Common.{◌≡◌, ℕ, suc, ◌+◌, ◌<◌, ◌||◌, ◌==◌, Bool, true, false, List, [], ◌∷◌, ◌++◌, length, drop, get_or, refl, sym, ap, ◌∙◌, append_assoc, add-one, drop-cons}
 use Rattle.std.specs.Prelude.{Option, Some, None, option_map, not, if◌then◌else◌}
 use Rattle.std.proofs.lemmas.Bool.{false≢true}
 use Rattle.request_model.specs.declared.forms.Quoting.{Quoting}
 use Rattle.request_model.specs.declared.forms.Quoting.TheVariants.{Outside, Within, Escaped}
-use Rattle.request_model.specs.Words.{some_if}
 use Rattle.request_model.specs.MediaTypes.{content_from, with_content, after_byte, is_outside}
 use Rattle.media_types.specs.ParamPieces.{is_content}
 

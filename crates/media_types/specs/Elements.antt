@@ -2,11 +2,9 @@
 use Rattle.std.specs.Prelude.{ℕ, ◌||◌, Bool, not, if◌then◌else◌, List, Option, Some, None, filter}
 use Rattle.std.specs.List.{list_any, filter_map}
 use Rattle.request_model.specs.declared.forms.Media.{Media}
-use Rattle.request_model.specs.declared.forms.Param.{Param}
 use Rattle.request_model.specs.Words.{is_any}
 use Rattle.request_model.specs.MediaTypes.{media_of}
 use Rattle.request_model.specs.Negotiation.{is_json_api, is_good, without_weight}
-use Rattle.media_types.specs.TypeParams.{are_good, without_q}
 use Rattle.media_types.specs.declared.accepting.Element.{Element}
 use Rattle.media_types.specs.declared.accepting.Element.TheVariants.{Other, Refused, Accepted}
 

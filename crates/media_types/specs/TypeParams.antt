@@ -5,7 +5,7 @@ use Rattle.request_model.specs.declared.forms.Media.{Media}
 use Rattle.request_model.specs.declared.forms.Need.{Need}
 use Rattle.request_model.specs.declared.forms.Param.{Param}
 use Rattle.request_model.specs.Words.{parts_at, space, is_any, some_if}
-use Rattle.request_model.specs.Negotiation.{is_json_api, is_named, is_atomic, needs_body, needs_atomic}
+use Rattle.request_model.specs.Negotiation.{is_json_api, is_named, is_atomic, needs_atomic}
 
 -- the parameters, where it is a media type of JSON:API
 abbrev pub json_api_params : Option Media → Option (List Param)

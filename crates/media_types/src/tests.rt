@@ -294,9 +294,9 @@ fn judges_content(rt: HostRuntime) {
             Judged::BadType,
         ),
     ];
-    for (at, (pairs, need, want)) in rows.iter().enumerate() {
-        match judged(rt.alloc(), pairs, *need) {
-            Ok(found) => assert_eq!(rt; found, *want, "row {at}"),
+    for (at, (pairs, need, want)) in rows.into_iter().enumerate() {
+        match judged(rt.alloc(), pairs, need) {
+            Ok(found) => assert_eq!(rt; found, want, "row {at}"),
             Err(NoMemory) => assert!(rt; false, "no memory"),
         }
     }

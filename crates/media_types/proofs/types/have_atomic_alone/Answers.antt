@@ -1,4 +1,4 @@
-use Rattle.std.proofs.Common.{◌&&◌, ◌||◌, ◌∙◌, rules, tests}
+use Rattle.std.proofs.Common.{◌||◌, ◌∙◌, rules, tests}
 use Rattle.std.specs.Prelude.{codes, filter, not}
 use Rattle.std.specs.List.{list_all}
 use Rattle.std.proofs.lemmas.Iterator.{YieldsList-from_slice}
