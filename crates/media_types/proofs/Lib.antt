@@ -1,0 +1,5 @@
+mod TokenTexts
+mod Cuts
+mod Extensions
+mod Joins
+mod Quoted
