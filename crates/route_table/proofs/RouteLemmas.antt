@@ -1,5 +1,5 @@
 -- What a walk over the segments of a path finds.
-use Rattle.std.proofs.Common.{◌≡◌, ◌≢◌, ℕ, ◌+◌, ◌<◌, ◌≤◌, List, Option, Bool, true, false, Some, None, [], ◌∷◌, ◌==◌, not, length, refl, sym, ap, ◌∙◌, cond, subst, arith, IsTrue, Ok}
+use Rattle.std.proofs.Common.{◌≡◌, ◌≢◌, ℕ, ◌+◌, ◌<◌, ◌≤◌, List, Option, Bool, true, false, Some, None, [], ◌∷◌, ◌==◌, not, length, refl, sym, ap, ◌∙◌, cond, arith, IsTrue}
 use Rattle.std.specs.Prelude.{slice_get, nat_lt, slice_index_or}
 use Rattle.std.specs.Option.{option_map_or}
 use Rattle.std.specs.List.{slice_split, onto_first, position_or_len, before_first, after_first}
@@ -7,7 +7,6 @@ use Rattle.std.proofs.lemmas.Bool.Decides.{nat_tests}
 use Rattle.std.proofs.lemmas.List.Splits.{length-slice_split, slice_split_first}
 use Rattle.resource_schema.specs.declared.schema.Schema.{Schema}
 use Rattle.resource_schema.specs.declared.kinds.Kind.{Kind}
-use Rattle.resource_schema.specs.declared.targets.Target.{Target}
 use Rattle.resource_schema.specs.SchemaRules.{is_schema, is_kind}
 use Rattle.std.proofs.lemmas.Option.{slice_get_read, slice_get_past}
 use Rattle.resource_schema.specs.Kinds.{number_of_relationship, relationship_of}

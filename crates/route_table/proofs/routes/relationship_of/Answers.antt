@@ -1,4 +1,4 @@
-use Rattle.std.proofs.Common.{ap, sym, ◌∙◌}
+use Rattle.std.proofs.Common.{◌∙◌}
 use Rattle.route_table.proofs.RouteLemmas.{few_relationships, number_at_kind, no_number}
 use Rattle.route_table.proofs.routes.relationship_of.Goals as goal
 
