@@ -10,7 +10,7 @@ use ident_rules::{Id, Key, NoMemory, read_id};
 use request_model::found_target_is_known;
 use resource_schema::{Schema, Target};
 use std::alloc::Global;
-use uri_texts::decode_segment;
+use uri_texts::read_segment;
 
 /// The number of a relationship of a type.
 fn relationship_of(schema: &Schema, kind: u32, name: &str) -> Option<u32>
@@ -26,7 +26,7 @@ fn relationship_of(schema: &Schema, kind: u32, name: &str) -> Option<u32>
 fn kind_at(alloc: Global, schema: &Schema, segment: &str) -> Result<Option<u32>, NoMemory>
     ensures { IfOk result (λ o. o ≡ kind_at schema.now segment.now) }
 {
-    let Some(name) = decode_segment(alloc, segment)? else {
+    let Some(name) = read_segment(alloc, segment)? else {
         return Ok(None);
     };
     Ok(schema.kind_of(name.as_str()))
@@ -46,7 +46,7 @@ fn key_at(alloc: Global, schema: &Schema, kind: &str, id: &str) -> Result<Option
     let Some(kind) = kind_at(alloc, schema, kind)? else {
         return Ok(None);
     };
-    let Some(text) = decode_segment(alloc, id)? else {
+    let Some(text) = read_segment(alloc, id)? else {
         return Ok(None);
     };
     let Some(id) = id_of(text.as_str()) else {
@@ -64,7 +64,7 @@ fn relationship_at(
 ) -> Result<Option<u32>, NoMemory>
     ensures { IfOk result (λ o. o ≡ relationship_at schema.now key.now segment.now) }
 {
-    let Some(name) = decode_segment(alloc, segment)? else {
+    let Some(name) = read_segment(alloc, segment)? else {
         return Ok(None);
     };
     Ok(relationship_of(schema, key.kind, name.as_str()))

@@ -9,5 +9,5 @@ mod targets;
 mod tests;
 
 pub use links::{related_link, relationship_link, resource_link, with_query};
-pub use segments::decode_segment;
+pub use segments::{decode_segment, read_segment};
 pub use targets::split_target;

@@ -1,5 +1,6 @@
 use crate::{
-    decode_segment, related_link, relationship_link, resource_link, split_target, with_query,
+    decode_segment, read_segment, related_link, relationship_link, resource_link, split_target,
+    with_query,
 };
 use ident_rules::{Id, Text, read_name};
 use std::test::Fail;
@@ -43,11 +44,13 @@ fn decodes_segments(rt: HostRuntime) -> Result<(), Fail> {
     ];
     for (segment, want) in cases {
         let decoded = decode_segment(rt.alloc(), segment)?;
-        match (&decoded, want) {
-            (Some(text), Some(want)) => {
+        let read = read_segment(rt.alloc(), segment)?;
+        match (&decoded, &read, want) {
+            (Some(text), Some(same), Some(want)) => {
                 assert_eq!(rt; text.as_str(), want, "segment {segment}");
+                assert_eq!(rt; same.as_str(), want, "segment {segment}");
             }
-            (None, None) => {}
+            (None, None, None) => {}
             _ => assert!(rt; false, "segment {segment}"),
         }
     }
