@@ -1,0 +1,5 @@
+pub mod Counts
+pub mod Merging
+pub mod Narrowing
+pub mod Places
+pub mod Recording

@@ -1,0 +1,115 @@
+ghost use Rattle.std.specs.Prelude.{◌≡◌, [], IfOk, OnOk, OnErr, MatchResult, map, Some, None};
+ghost use Rattle.std.specs.Option.{option_map};
+ghost use Rattle.std.specs.FinMap.Entries.{find};
+ghost use Rattle.world_cells.specs.CellOrder.{cell_key_cmp};
+ghost use Rattle.world_cells.specs.Reads.{entries_of, AreRisingKeys};
+ghost use Rattle.view_reads.specs.Places.{AreSorted, Wrote, IsThere, IsBetween};
+
+use ident_rules::{List, NoMemory};
+use std::alloc::Global;
+use std::cmp::Ordering;
+use std::marker::Model;
+use world_cells::{Cell, CellKey, Written};
+
+/// Writes in strictly ascending order of their keys.
+#[derive(Drop)]
+pub(crate) struct Writes {
+    items: Vec<Written>,
+}
+
+impl Model for Writes {
+    ghost use Rattle.std.specs.Prelude.{List as Listed};
+    ghost use Rattle.world_cells.specs.declared.sets.Written.{Written};
+    ghost use Rattle.view_reads.specs.Places.{AreSorted};
+
+    ghost Value = { Listed Written };
+
+    ghost view = { λ w. w.items.items };
+
+    ghost invariant = { λ w. AreSorted w.items.items };
+}
+
+impl Writes {
+    /// None.
+    pub(crate) fn new(alloc: Global) -> Writes
+        ensures { result ≡ [] }
+    {
+        Writes {
+            items: Vec::new(alloc),
+        }
+    }
+
+    /// What is written at a key, if anything.
+    pub(crate) fn at(&self, key: &CellKey) -> Option<&Written>
+        ensures { option_map (λ w. w.now.cell) result ≡ find cell_key_cmp key.now (entries_of self.now) }
+    {
+        write_at(&self.items, key)
+    }
+
+    /// Writes a cell, or with none removes what stands at the key.
+    pub(crate) fn write(&mut self, key: CellKey, cell: Option<Cell>) -> Result<(), NoMemory>
+        ensures ok { OnOk result (Wrote self.old key cell self.new) }
+        ensures err { OnErr result (self.new ≡ self.old) }
+    {
+        write_cell(&mut self.items, key, cell)
+    }
+
+    /// Leaves no write.
+    pub(crate) fn clear(&mut self)
+        ensures { self.new ≡ [] }
+    {
+        self.items.clear();
+    }
+
+    /// The writes in order. Takes no memory.
+    pub(crate) fn into_list(self) -> List<Written>
+        ensures same { result ≡ self }
+        ensures rising { AreRisingKeys (map (λ w. w.key) result) }
+    {
+        let Writes { items } = self;
+        List::from_vec(items)
+    }
+}
+
+/// What is written at a key, if anything.
+fn write_at<'a>(writes: &'a [Written], key: &CellKey) -> Option<&'a Written>
+    ensures { option_map (λ w. w.now.cell) result ≡ find cell_key_cmp key.now (entries_of writes.now) }
+{
+    for written in writes {
+        if *key == written.key {
+            return Some(written);
+        }
+    }
+    None
+}
+
+/// The place of a key, or else the place where it would stand.
+fn place_of(writes: &[Written], key: &CellKey) -> Result<usize, usize>
+    ensures { MatchResult result (IsThere writes.now key.now) (IsBetween writes.now key.now) }
+{
+    for (at, written) in writes.iter().enumerate() {
+        match key.cmp(&written.key) {
+            Ordering::Less => return Err(at),
+            Ordering::Equal => return Ok(at),
+            Ordering::Greater => {}
+        }
+    }
+    Err(writes.len())
+}
+
+fn write_cell(writes: &mut Vec<Written>, key: CellKey, cell: Option<Cell>) -> Result<(), NoMemory>
+    ensures ok { OnOk result (Wrote writes.old.items key cell writes.new.items) }
+    ensures err { OnErr result (writes.new.items ≡ writes.old.items) }
+{
+    match place_of(writes, &key) {
+        Ok(at) => {
+            let written = &mut writes[at];
+            written.cell = cell;
+            Ok(())
+        }
+        Err(at) => {
+            writes.insert(at, Written { key, cell })?;
+            Ok(())
+        }
+    }
+}
