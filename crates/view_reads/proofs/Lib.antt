@@ -1,2 +1,5 @@
 pub mod Places
 pub mod Sorted
+pub mod Puts
+pub mod Narrows
+pub mod Merges

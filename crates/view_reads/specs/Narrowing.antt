@@ -1,6 +1,9 @@
 -- Searching a span from one of its ends, and what is left of it behind a key.
 use Rattle.std.specs.Prelude.{⊤, ◌≡◌, Bool, true, false, IsTrue, Some, None, Option}
+use Rattle.std.specs.Prelude.{ℕ}
+use Rattle.std.specs.Option.{option_map_or}
 use Rattle.std.specs.Ordering.{is_lt}
+use Rattle.ident_rules.specs.declared.key.Key.{Key}
 use Rattle.world_cells.specs.declared.keys.CellKey.{CellKey}
 use Rattle.world_cells.specs.declared.keys.CellKey.TheVariants as cell_key
 use Rattle.world_cells.specs.declared.cells.Cell.{Cell}
@@ -8,7 +11,7 @@ use Rattle.world_cells.specs.declared.spans.Edge.TheVariants as edge
 use Rattle.world_cells.specs.declared.spans.Span.{Span}
 use Rattle.world_cells.specs.declared.spans.Span.TheVariants as span
 use Rattle.world_cells.specs.CellOrder.{cell_key_cmp}
-use Rattle.world_cells.specs.Reads.{Cells, in_span}
+use Rattle.world_cells.specs.Reads.{Cells, in_span, link_cmp}
 
 -- whether a search, from the top or else from the low end, meets j before k
 abbrev pub is_met : Bool → CellKey → CellKey → Bool
@@ -35,3 +38,7 @@ abbrev pub CanNarrow : Bool → Span → Type 0
 CanNarrow false span = ⊤
 CanNarrow true (span.Rows kind low high) = ⊤
 CanNarrow true (span.Backs to after) = ⊥
+
+-- whether a link stands behind another, if there is one
+abbrev pub is_behind : Option (Key × ℕ) → Key × ℕ → Bool
+is_behind after link = option_map_or (λ l. is_lt (link_cmp l link)) after true

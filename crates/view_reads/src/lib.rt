@@ -5,7 +5,9 @@
 //! answer rests on, and keeps the writes in order. The contract of each call speaks of the view by its map alone.
 #![tactic(auto)]
 
+mod merging;
 mod recorder;
+mod spans;
 mod views;
 mod writes;
 

@@ -1,15 +1,19 @@
-ghost use Rattle.std.specs.Prelude.{◌≡◌, [], IfOk, OnOk, OnErr, MatchResult, map, Some, None};
+ghost use Rattle.std.specs.Prelude.{◌≡◌, true, false, [], IfOk, OnOk, OnErr, MatchResult, map, Some, None};
 ghost use Rattle.std.specs.Option.{option_map};
 ghost use Rattle.std.specs.FinMap.Entries.{find};
 ghost use Rattle.world_cells.specs.CellOrder.{cell_key_cmp};
-ghost use Rattle.world_cells.specs.Reads.{entries_of, AreRisingKeys};
+ghost use Rattle.world_cells.specs.Reads.{entries_of, overlay, AreRisingKeys};
+ghost use Rattle.view_reads.specs.Merging.{nothing, put_in};
+ghost use Rattle.view_reads.specs.Narrowing.{IsMet};
 ghost use Rattle.view_reads.specs.Places.{AreSorted, Wrote, IsThere, IsBetween};
+ghost use Rattle.view_reads.specs.Recording.{pair_now};
 
+use crate::spans::in_span;
 use ident_rules::{List, NoMemory};
 use std::alloc::Global;
 use std::cmp::Ordering;
 use std::marker::Model;
-use world_cells::{Cell, CellKey, Written};
+use world_cells::{Cell, CellKey, Span, Written};
 
 /// Writes in strictly ascending order of their keys.
 #[derive(Drop)]
@@ -46,6 +50,17 @@ impl Writes {
         write_at(&self.items, key)
     }
 
+    /// The cell that a search of a span meets first among those that are put.
+    pub(crate) fn met_put(&self, from_top: bool, span: &Span) -> Option<(&CellKey, &Cell)>
+        ensures { IsMet from_top (overlay nothing self.now) span.now (option_map pair_now result) }
+    {
+        if from_top {
+            last_put(&self.items, span)
+        } else {
+            first_put(&self.items, span)
+        }
+    }
+
     /// Writes a cell, or with none removes what stands at the key.
     pub(crate) fn write(&mut self, key: CellKey, cell: Option<Cell>) -> Result<(), NoMemory>
         ensures ok { OnOk result (Wrote self.old key cell self.new) }
@@ -78,6 +93,48 @@ fn write_at<'a>(writes: &'a [Written], key: &CellKey) -> Option<&'a Written>
     for written in writes {
         if *key == written.key {
             return Some(written);
+        }
+    }
+    None
+}
+
+/// What a write puts into a span, if anything.
+fn put_in<'a>(written: &'a Written, span: &Span) -> Option<(&'a CellKey, &'a Cell)>
+    ensures { option_map pair_now result ≡ put_in written.now span.now }
+{
+    if in_span(span, &written.key) {
+        match &written.cell {
+            Some(cell) => Some((&written.key, cell)),
+            None => None,
+        }
+    } else {
+        None
+    }
+}
+
+/// The first cell that is put into a span.
+fn first_put<'a>(writes: &'a [Written], span: &Span) -> Option<(&'a CellKey, &'a Cell)>
+    requires { AreSorted writes.now }
+    ensures { IsMet false (overlay nothing writes.now) span.now (option_map pair_now result) }
+{
+    for written in writes {
+        if let Some(put) = put_in(written, span) {
+            return Some(put);
+        }
+    }
+    None
+}
+
+/// The last cell that is put into a span.
+fn last_put<'a>(writes: &'a [Written], span: &Span) -> Option<(&'a CellKey, &'a Cell)>
+    requires { AreSorted writes.now }
+    ensures { IsMet true (overlay nothing writes.now) span.now (option_map pair_now result) }
+{
+    let mut at = writes.len();
+    while at > 0 {
+        at -= 1;
+        if let Some(put) = put_in(&writes[at], span) {
+            return Some(put);
         }
     }
     None

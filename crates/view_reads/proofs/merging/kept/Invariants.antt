@@ -1,0 +1,8 @@
+use Rattle.view_reads.proofs.Merges.{IsLeft, keys_in}
+use Rattle.view_reads.proofs.merging.kept.Given as goal
+
+abbrev pub invariant-loop-key : goal.invariant-loop-key
+invariant-loop-key g l = IsLeft l.from_top (g.V.View.cells l.view) l.writes l.fn.span l.rest
+
+abbrev pub decreases-loop-key : goal.decreases-loop-key
+decreases-loop-key g l = keys_in l.rest l.writes

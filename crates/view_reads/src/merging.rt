@@ -1,0 +1,84 @@
+//! Searching a view and the writes over it together.
+ghost use Rattle.std.specs.Prelude.{◌≡◌, ◌+◌, ◌≤◌, length};
+ghost use Rattle.std.specs.Option.{option_map};
+ghost use Rattle.world_cells.specs.Reads.{overlay};
+ghost use Rattle.view_reads.specs.Counts.{counted};
+ghost use Rattle.view_reads.specs.Recording.{pair_now};
+ghost use Rattle.view_reads.specs.Narrowing.{IsMet, CanNarrow};
+ghost use Rattle.view_reads.specs.Merging.{IsKept, is_met_before};
+
+use crate::View;
+use crate::spans::{is_met, narrowed};
+use crate::writes::Writes;
+use outer_ends::Work;
+use world_cells::{Cell, CellKey, Span};
+
+/// The cell of a view that a search of a span meets first.
+fn met_in<'a, V: View>(
+    from_top: bool,
+    view: &'a V,
+    span: &Span,
+    work: &mut Work,
+) -> Option<(&'a CellKey, &'a Cell)>
+    ensures value { IsMet from_top (V.cells view.now) span.now (option_map pair_now result) }
+    ensures work { work.new.done ≡ counted work.old.done }
+{
+    if from_top {
+        view.last_in(span, work)
+    } else {
+        view.first_in(span, work)
+    }
+}
+
+/// Whether a search meets a key before what was put, if anything was.
+fn is_met_before(from_top: bool, put: &Option<(&CellKey, &Cell)>, key: &CellKey) -> bool
+    ensures { result ≡ is_met_before from_top (option_map pair_now put.now) key.now }
+{
+    match put {
+        Some((own, _)) => is_met(from_top, key, own),
+        None => true,
+    }
+}
+
+/// The cell of a view at whose key nothing is written, and which a search meets first, if it meets it before what was put.
+fn kept<'a, V: View>(
+    from_top: bool,
+    view: &'a V,
+    writes: &Writes,
+    span: Span,
+    put: &Option<(&CellKey, &Cell)>,
+    work: &mut Work,
+) -> Option<(&'a CellKey, &'a Cell)>
+    requires { CanNarrow from_top span }
+    ensures { IsKept from_top (V.cells view.now) writes.now span (option_map pair_now put.now) (option_map pair_now result) }
+{
+    let mut rest = span;
+    while let Some((key, cell)) = met_in(from_top, view, &rest, work) {
+        if !is_met_before(from_top, put, key) {
+            return None;
+        }
+        if writes.at(key).is_none() {
+            return Some((key, cell));
+        }
+        rest = narrowed(from_top, rest, key);
+    }
+    None
+}
+
+/// The cell that a search of a span meets first in a view under writes.
+pub(crate) fn met_under<'a, V: View>(
+    from_top: bool,
+    view: &'a V,
+    writes: &'a Writes,
+    span: Span,
+    work: &mut Work,
+) -> Option<(&'a CellKey, &'a Cell)>
+    requires { CanNarrow from_top span }
+    ensures { IsMet from_top (overlay (V.cells view.now) writes.now) span (option_map pair_now result) }
+{
+    let put = writes.met_put(from_top, &span);
+    match kept(from_top, view, writes, span, &put, work) {
+        Some(found) => Some(found),
+        None => put,
+    }
+}
