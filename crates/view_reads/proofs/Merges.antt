@@ -164,11 +164,11 @@ left_past from_top f ws span rest p c left met written = record {
   passed = λ j inside outside.
       by_left (in_span rest j)
       (λ here.
-          let behind : is_met from_top p.0 j ≡ false = sym (ap (λ b. b && is_met from_top p.0 j) here) ∙ sym (narrowed_is from_top rest p.0 j left.can met.0) ∙ outside in
-          elim (met_or_same from_top j p.0 behind) [
-            | inl before ↦ unwritten_none f ws j (met.2 j here before)
-            | inr same ↦ ap (unwritten f ws) same ∙ hidden_here (find cell_key_cmp p.0 (entries_of ws)) (f p.0) c written
-          ])
+      let behind : is_met from_top p.0 j ≡ false = sym (ap (λ b. b && is_met from_top p.0 j) here) ∙ sym (narrowed_is from_top rest p.0 j left.can met.0) ∙ outside in
+      elim (met_or_same from_top j p.0 behind) [
+        | inl before ↦ unwritten_none f ws j (met.2 j here before)
+        | inr same ↦ ap (unwritten f ws) same ∙ hidden_here (find cell_key_cmp p.0 (entries_of ws)) (f p.0) c written
+      ])
       (λ gone. left.passed j inside gone);
 }
 
@@ -201,13 +201,13 @@ fewer : (rest less : Span) (ws : List Written) → ((j : CellKey) → in_span le
 fewer rest less [] f k inside outside c written = cc written
 fewer rest less (w ∷ ws) f k inside outside c written = by_left (same_cell_key k w.key)
     (λ same.
-        let at : k ≡ w.key = same_is k w.key same in
-        let yes : one_if (in_span rest w.key) ≡ 1 = ap one_if (sym (ap (in_span rest) at) ∙ inside) in
-        let none : one_if (in_span less w.key) ≡ 0 = ap one_if (sym (ap (in_span less) at) ∙ outside) in
-        omega (arith, yes, none, no_more rest less ws f))
+    let at : k ≡ w.key = same_is k w.key same in
+    let yes : one_if (in_span rest w.key) ≡ 1 = ap one_if (sym (ap (in_span rest) at) ∙ inside) in
+    let none : one_if (in_span less w.key) ≡ 0 = ap one_if (sym (ap (in_span less) at) ∙ outside) in
+    omega (arith, yes, none, no_more rest less ws f))
     (λ other.
-        let later = fewer rest less ws f k inside outside c (sym (ap (λ b. cond b (Some w.cell) (find cell_key_cmp k (entries_of ws))) other) ∙ written) in
-        omega (arith, one_at_most (in_span less w.key) (in_span rest w.key) (f w.key), later))
+    let later = fewer rest less ws f k inside outside c (sym (ap (λ b. cond b (Some w.cell) (find cell_key_cmp k (entries_of ws))) other) ∙ written) in
+    omega (arith, one_at_most (in_span less w.key) (in_span rest w.key) (f w.key), later))
 
 pub fewer_left : (from_top : Bool) (rest : Span) (ws : List Written) (k : CellKey) (c : Option Cell) → CanNarrow from_top rest → in_span rest k ≡ true → find cell_key_cmp k (entries_of ws) ≡ Some c
     → keys_in (narrowed from_top rest k) ws < keys_in rest ws

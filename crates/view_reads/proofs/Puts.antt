@@ -88,8 +88,7 @@ head_skipped w ws span h none found met = alike false (overlay nothing ws) (over
 head_met : (w : Written) (ws : List Written) (span : Span) → AreSorted (w ∷ ws) → (p : CellKey × Cell) → put_in w span ≡ Some p → IsMet false (overlay nothing (w ∷ ws)) span (Some p)
 head_met w ws span h p is =
     let parts = put_by (in_span span w.key) w.key w.cell p is in
-    let there : overlay nothing (w ∷ ws) w.key ≡ w.cell = ap (λ o. unwrap_or (cond (is_eq o) (Some w.cell) (find cell_key_cmp w.key (entries_of ws))) None) (tied_itself cell_key_cmp_total w.key) in
-    (
+    let there : overlay nothing (w ∷ ws) w.key ≡ w.cell = ap (λ o. unwrap_or (cond (is_eq o) (Some w.cell) (find cell_key_cmp w.key (entries_of ws))) None) (tied_itself cell_key_cmp_total w.key) in (
       ap (in_span span) parts.2 ∙ parts.0,
       ap (overlay nothing (w ∷ ws)) parts.2 ∙ there ∙ parts.1,
       λ j inside before.
@@ -165,8 +164,7 @@ greater j k less = reversed k j Less (is_less _ less)
 end_met : (ws : List Written) (w : Written) (span : Span) → AreSorted (ws ++ w ∷ []) → (p : CellKey × Cell) → put_in w span ≡ Some p → IsMet true (overlay nothing (ws ++ w ∷ [])) span (Some p)
 end_met ws w span h p is =
     let parts = put_by (in_span span w.key) w.key w.cell p is in
-    let there : overlay nothing (ws ++ w ∷ []) w.key ≡ w.cell = pushed ws w h w.key ∙ ap (λ o. unwrap_or (cond (is_eq o) (Some w.cell) (find cell_key_cmp w.key (entries_of ws))) None) (tied_itself cell_key_cmp_total w.key) in
-    (
+    let there : overlay nothing (ws ++ w ∷ []) w.key ≡ w.cell = pushed ws w h w.key ∙ ap (λ o. unwrap_or (cond (is_eq o) (Some w.cell) (find cell_key_cmp w.key (entries_of ws))) None) (tied_itself cell_key_cmp_total w.key) in (
       ap (in_span span) parts.2 ∙ parts.0,
       ap (overlay nothing (ws ++ w ∷ [])) parts.2 ∙ there ∙ parts.1,
       λ j inside before.

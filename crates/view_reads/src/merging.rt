@@ -1,7 +1,7 @@
 //! Searching a view and the writes over it together.
 ghost use Rattle.std.specs.Prelude.{◌≡◌, ◌+◌, ◌≤◌, length};
-ghost use Rattle.std.specs.Option.{option_map};
-ghost use Rattle.world_cells.specs.Reads.{overlay};
+ghost use Rattle.std.specs.Option.{option_copied, option_map};
+ghost use Rattle.world_cells.specs.Reads.{overlay, IsFirstIn, IsLastIn};
 ghost use Rattle.view_reads.specs.Counts.{counted};
 ghost use Rattle.view_reads.specs.Recording.{pair_now};
 ghost use Rattle.view_reads.specs.Narrowing.{IsMet, CanNarrow};
@@ -65,20 +65,44 @@ fn kept<'a, V: View>(
     None
 }
 
-/// The cell that a search of a span meets first in a view under writes.
-pub(crate) fn met_under<'a, V: View>(
-    from_top: bool,
-    view: &'a V,
-    writes: &'a Writes,
-    span: Span,
-    work: &mut Work,
-) -> Option<(&'a CellKey, &'a Cell)>
-    requires { CanNarrow from_top span }
-    ensures { IsMet from_top (overlay (V.cells view.now) writes.now) span (option_map pair_now result) }
-{
-    let put = writes.met_put(from_top, &span);
-    match kept(from_top, view, writes, span, &put, work) {
-        Some(found) => Some(found),
-        None => put,
+/// A view under writes.
+#[derive(Drop)]
+pub(crate) struct Overlaid<V> {
+    pub(crate) view: V,
+    pub(crate) writes: Writes,
+}
+
+impl<V: View> Overlaid<V> {
+    /// The cell at a key.
+    pub(crate) fn at(&self, key: &CellKey, work: &mut Work) -> Option<&Cell>
+        ensures value { option_copied result ≡ overlay (V.cells self.now.view) self.now.writes key.now }
+        ensures work { work.new.done ≡ counted work.old.done }
+    {
+        match self.writes.at(key) {
+            Some(written) => {
+                work.add();
+                written.cell.as_ref()
+            }
+            None => self.view.get(key, work),
+        }
+    }
+
+    /// The first cell of a span.
+    pub(crate) fn first_in(&self, span: Span, work: &mut Work) -> Option<(&CellKey, &Cell)>
+        ensures { IsFirstIn (overlay (V.cells self.now.view) self.now.writes) span (option_map pair_now result) }
+    {
+        self.met(false, span, work)
+    }
+
+    /// The cell of a span that a search meets first.
+    fn met(&self, from_top: bool, span: Span, work: &mut Work) -> Option<(&CellKey, &Cell)>
+        requires { CanNarrow from_top span }
+        ensures { IsMet from_top (overlay (V.cells self.now.view) self.now.writes) span (option_map pair_now result) }
+    {
+        let put = self.writes.met_put(from_top, &span);
+        match kept(from_top, &self.view, &self.writes, span, &put, work) {
+            Some(found) => Some(found),
+            None => put,
+        }
     }
 }

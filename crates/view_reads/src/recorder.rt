@@ -1,26 +1,26 @@
-ghost use Rattle.std.specs.Prelude.{◌≡◌, [], OnOk, OnErr, Some, None, map};
-ghost use Rattle.std.specs.Option.{option_copied};
+ghost use Rattle.std.specs.Prelude.{◌≡◌, [], IfOk, OnOk, OnErr, Some, None, map};
+ghost use Rattle.std.specs.Option.{option_copied, option_map};
 ghost use Rattle.world_cells.specs.Reads.{overlay, AreRisingKeys};
 ghost use Rattle.view_reads.specs.Counts.{counted};
 ghost use Rattle.view_reads.specs.Places.{Wrote};
 ghost use Rattle.view_reads.specs.Recording.{read_key};
 
 use crate::View;
+use crate::merging::Overlaid;
 use crate::writes::Writes;
 use ident_rules::{List, NoMemory};
 use outer_ends::Work;
 use std::alloc::Global;
 use std::marker::Model;
-use world_cells::{Cell, CellKey, Part, ReadSet, WriteSet};
+use world_cells::{Cell, CellKey, Part, ReadSet, Span, WriteSet};
 
 /// A view, with what was read of it and what is written over it.
 #[derive(Drop)]
 pub struct Recorder<V> {
     alloc: Global,
-    view: V,
+    cells: Overlaid<V>,
     keys: Vec<CellKey>,
     parts: Vec<Part>,
-    writes: Writes,
 }
 
 impl<V> Model for Recorder<V> {
@@ -28,7 +28,7 @@ impl<V> Model for Recorder<V> {
 
     ghost Value = { Recording V };
 
-    ghost view = { λ r. record { store = r.view; reads = record { keys = r.keys.items; parts = r.parts.items }; writes = r.writes } };
+    ghost view = { λ r. record { store = r.cells.view; reads = record { keys = r.keys.items; parts = r.parts.items }; writes = r.cells.writes } };
 }
 
 impl<V: View> Recorder<V> {
@@ -44,10 +44,12 @@ impl<V: View> Recorder<V> {
     {
         Recorder {
             alloc,
-            view,
+            cells: Overlaid {
+                view,
+                writes: Writes::new(alloc),
+            },
             keys: Vec::new(alloc),
             parts: Vec::new(alloc),
-            writes: Writes::new(alloc),
         }
     }
 
@@ -61,7 +63,32 @@ impl<V: View> Recorder<V> {
         ensures unread { OnErr result (work.new.done ≡ work.old.done) }
     {
         self.note(key)?;
-        Ok(self.look(key, work))
+        Ok(self.cells.at(key, work))
+    }
+
+    /// The first cell of a span and its key, as the span stands under what is written here; None exactly where it has no
+    /// cell. The part of the span from its low edge to the cell that was found is added to the read set, and the whole span
+    /// where none was found.
+    ///
+    /// Its one error is want of memory, after which the recorder is as before.
+    pub fn first_in(
+        &mut self,
+        span: &Span,
+        work: &mut Work,
+    ) -> Result<Option<(&CellKey, &Cell)>, NoMemory>
+        ensures* after { sem 𝓛 (follows_so (the_row V.row) (the_row V.row) self.entry.ghost_name none (λ _ _. ⊤) (λ n. LookedFirst V.cells self.old span.now result n)) }
+    {
+        let alloc = self.alloc;
+        let whole = span.copy(alloc)?;
+        let rest = span.copy(alloc)?;
+        let found = self.cells.first_in(rest, work);
+        let part = Part {
+            span: whole,
+            found: copied_key(alloc, &found)?,
+            from_top: false,
+        };
+        self.parts.push(part)?;
+        Ok(found)
     }
 
     /// Writes a cell over the view.
@@ -71,7 +98,7 @@ impl<V: View> Recorder<V> {
         ensures ok { OnOk result ((self.new.store ≡ self.old.store) × (self.new.reads ≡ self.old.reads) × Wrote self.old.writes key (Some cell) self.new.writes) }
         ensures err { OnErr result (self.new ≡ self.old) }
     {
-        self.writes.write(key, Some(cell))
+        self.cells.writes.write(key, Some(cell))
     }
 
     /// Removes what stands at a key, if anything.
@@ -81,14 +108,14 @@ impl<V: View> Recorder<V> {
         ensures ok { OnOk result ((self.new.store ≡ self.old.store) × (self.new.reads ≡ self.old.reads) × Wrote self.old.writes key None self.new.writes) }
         ensures err { OnErr result (self.new ≡ self.old) }
     {
-        self.writes.write(key, None)
+        self.cells.writes.write(key, None)
     }
 
     /// Leaves nothing written. What was read stays read. Takes no memory.
     pub fn forget_writes(&mut self)
         ensures { self.new ≡ record self.old { writes = [] } }
     {
-        self.writes.clear();
+        self.cells.writes.clear();
     }
 
     /// What was read and what is written, in strictly ascending order of keys. Takes no memory.
@@ -98,15 +125,15 @@ impl<V: View> Recorder<V> {
     {
         let Recorder {
             alloc: _,
-            view: _,
+            cells,
             keys,
             parts,
-            writes,
         } = self;
         let reads = ReadSet {
             keys: List::from_vec(keys),
             parts: List::from_vec(parts),
         };
+        let Overlaid { view: _, writes } = cells;
         let cells = writes.into_list();
         (reads, WriteSet { cells })
     }
@@ -120,18 +147,14 @@ impl<V: View> Recorder<V> {
         self.keys.push(copy)?;
         Ok(())
     }
+}
 
-    /// The cell at a key, with no note of it.
-    fn look(&self, key: &CellKey, work: &mut Work) -> Option<&Cell>
-        ensures value { option_copied result ≡ overlay (V.cells self.now.store) self.now.writes key.now }
-        ensures work { work.new.done ≡ counted work.old.done }
-    {
-        match self.writes.at(key) {
-            Some(written) => {
-                work.add();
-                written.cell.as_ref()
-            }
-            None => self.view.get(key, work),
-        }
+/// The key of what was found, if anything was.
+fn copied_key(alloc: Global, found: &Option<(&CellKey, &Cell)>) -> Result<Option<CellKey>, NoMemory>
+    ensures { IfOk result (λ key. key ≡ option_map (λ p. p.0.now) found.now) }
+{
+    match found {
+        Some((key, _)) => Ok(Some(key.copy(alloc)?)),
+        None => Ok(None),
     }
 }
