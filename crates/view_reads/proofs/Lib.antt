@@ -3,3 +3,4 @@ pub mod Sorted
 pub mod Puts
 pub mod Narrows
 pub mod Merges
+pub mod Ranks

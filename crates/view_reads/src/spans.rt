@@ -1,6 +1,7 @@
 //! Which keys a span has, and what is left of it behind a key.
-ghost use Rattle.std.specs.Prelude.{◌≡◌};
+ghost use Rattle.std.specs.Prelude.{◌≡◌, ℕ, ◌<◌, length, slice_index};
 ghost use Rattle.world_cells.specs.Reads.{is_above, is_below, link_cmp, in_span};
+ghost use Rattle.view_reads.specs.Bounds.{IsBoundedLink, IsBoundedKey, IsBoundedBacks, IsBacks};
 ghost use Rattle.view_reads.specs.Narrowing.{is_behind, is_met, narrowed};
 
 use ident_rules::{Id, Key};
@@ -102,5 +103,42 @@ pub(crate) fn narrowed(from_top: bool, span: Span, key: &CellKey) -> Span
             after: Some((*from, *rel)),
         },
         (span, _) => span,
+    }
+}
+
+/// What the type of bytes keeps.
+fn bound_bytes(bytes: &[u8])
+    ensures { (k : ℕ) → k < length bytes.now → slice_index bytes.now k < 256 }
+{
+    let _ = bytes;
+}
+
+/// What the types of a link's numbers and of its id keep.
+fn bound_link(kind: u32, id: &Id, rel: u32)
+    ensures { IsBoundedLink (record { kind = kind; id = id.now }) rel }
+{
+    bound_bytes(id.bytes());
+}
+
+/// What the types of a key's numbers and ids keep.
+pub(crate) fn bound_key(key: &CellKey)
+    ensures { IsBoundedKey key.now }
+{
+    if let CellKey::Back { to: _, from, rel } = key {
+        bound_link(from.kind, &from.id, *rel);
+    }
+}
+
+/// What the types of a span's numbers and ids keep.
+pub(crate) fn bound_backs(span: &Span)
+    requires { IsBacks span.now }
+    ensures { IsBoundedBacks span.now }
+{
+    if let Span::Backs {
+        to: _,
+        after: Some((from, rel)),
+    } = span
+    {
+        bound_link(from.kind, &from.id, *rel);
     }
 }
