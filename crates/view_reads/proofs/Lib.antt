@@ -4,3 +4,4 @@ pub mod Puts
 pub mod Narrows
 pub mod Merges
 pub mod Ranks
+pub mod Walks

@@ -21,7 +21,7 @@ use Rattle.view_reads.proofs.Narrows.{and_true, narrowed_is, narrowed_can}
 
 -- ---- what a search meets before what
 
-less_trans : (i j k : CellKey) → is_lt (cell_key_cmp i j) ≡ true → is_lt (cell_key_cmp j k) ≡ true → is_lt (cell_key_cmp i k) ≡ true
+pub less_trans : (i j k : CellKey) → is_lt (cell_key_cmp i j) ≡ true → is_lt (cell_key_cmp j k) ≡ true → is_lt (cell_key_cmp i k) ≡ true
 less_trans i j k p q = ap is_lt (cell_key_cmp_total.trans i j k (is_less _ p) (is_less _ q))
 
 pub met_trans : (from_top : Bool) (i j k : CellKey) → is_met from_top i j ≡ true → is_met from_top j k ≡ true → is_met from_top i k ≡ true
@@ -46,14 +46,14 @@ met_far : (from_top : Bool) (j k m : CellKey) → is_met from_top k m ≡ false 
 met_far false j k m down less = less_far j k m (cell_key_cmp k m) refl down less
 met_far true j k m down less = more_far j k m (cell_key_cmp m k) refl down less
 
-before_far : (from_top : Bool) (put : Option (CellKey × Cell)) (j k : CellKey) → is_met_before from_top put k ≡ false → is_met_before from_top put j ≡ true → is_met from_top j k ≡ true
+pub before_far : (from_top : Bool) (put : Option (CellKey × Cell)) (j k : CellKey) → is_met_before from_top put k ≡ false → is_met_before from_top put j ≡ true → is_met from_top j k ≡ true
 before_far from_top None j k down less = cc down
 before_far from_top (Some p) j k down less = met_far from_top j k p.0 down less
 
 not_met : (j k : CellKey) → j ≡ k → is_lt (cell_key_cmp j k) ≡ false
 not_met j k e = ap (λ i. is_lt (cell_key_cmp i k)) e ∙ ap is_lt (tied_itself cell_key_cmp_total k)
 
-itself : (from_top : Bool) (k : CellKey) → is_met from_top k k ≡ false
+pub itself : (from_top : Bool) (k : CellKey) → is_met from_top k k ≡ false
 itself false k = not_met k k refl
 itself true k = not_met k k refl
 
@@ -68,7 +68,7 @@ one_back j k Less is down = cc down
 one_back j k Equal is down = inr (same_is j k (ap is_eq is))
 one_back j k Greater is down = inl (ap is_lt (cell_key_cmp_total.antisymm k j ∙ ap ordering_reverse is))
 
-met_or_same : (from_top : Bool) (j k : CellKey) → is_met from_top k j ≡ false → (is_met from_top j k ≡ true) ⊎ (j ≡ k)
+pub met_or_same : (from_top : Bool) (j k : CellKey) → is_met from_top k j ≡ false → (is_met from_top j k ≡ true) ⊎ (j ≡ k)
 met_or_same false j k down = one_of j k (cell_key_cmp k j) refl down
 met_or_same true j k down = one_back j k (cell_key_cmp j k) refl down
 
@@ -78,14 +78,14 @@ hidden_none : (w : Option (Option Cell)) (x : Option Cell) → x ≡ None → hi
 hidden_none None x e = e
 hidden_none (Some c) x e = refl
 
-unwritten_none : (f : Cells) (ws : List Written) (k : CellKey) → f k ≡ None → unwritten f ws k ≡ None
+pub unwritten_none : (f : Cells) (ws : List Written) (k : CellKey) → f k ≡ None → unwritten f ws k ≡ None
 unwritten_none f ws k e = hidden_none (find cell_key_cmp k (entries_of ws)) (f k) e
 
-hidden_here : (w : Option (Option Cell)) (x : Option Cell) (c : Option Cell) → w ≡ Some c → hidden w x ≡ None
+pub hidden_here : (w : Option (Option Cell)) (x : Option Cell) (c : Option Cell) → w ≡ Some c → hidden w x ≡ None
 hidden_here None x c e = cc e
 hidden_here (Some d) x c e = refl
 
-kept_shows : (w : Option (Option Cell)) (x : Option Cell) (c : Cell) → hidden w x ≡ Some c → unwrap_or w x ≡ Some c
+pub kept_shows : (w : Option (Option Cell)) (x : Option Cell) (c : Cell) → hidden w x ≡ Some c → unwrap_or w x ≡ Some c
 kept_shows None x c e = e
 kept_shows (Some d) x c e = cc e
 
@@ -135,7 +135,7 @@ pub left_all : (from_top : Bool) (f : Cells) (ws : List Written) (span : Span) �
 left_all from_top f ws span can = record { can = can; within = λ j inside. inside; passed = λ j inside outside. cc (inside, outside) }
 
 -- a key of the span is passed, or left
-by_left : {P : Type 0} (b : Bool) → (b ≡ true → P) → (b ≡ false → P) → P
+pub by_left : {P : Type 0} (b : Bool) → (b ≡ true → P) → (b ≡ false → P) → P
 by_left true f g = f refl
 by_left false f g = g refl
 

@@ -13,12 +13,13 @@ use Rattle.std.proofs.Math.Nat.{mul-le-mul_left, mul-le-mul_right}
 use Rattle.ident_rules.specs.declared.key.Key.{Key}
 use Rattle.ident_rules.specs.IdOrder.{id_cmp}
 use Rattle.ident_rules.specs.Key.{key_cmp, key_cmp-IsAntisymmetric}
+use Rattle.world_cells.specs.declared.keys.CellKey.{CellKey}
 use Rattle.world_cells.specs.declared.keys.CellKey.TheVariants as cell_key
 use Rattle.world_cells.specs.declared.spans.Span.{Span}
 use Rattle.world_cells.specs.declared.spans.Span.TheVariants as span
-use Rattle.world_cells.specs.Reads.{link_cmp}
-use Rattle.view_reads.specs.Narrowing.{is_behind}
-use Rattle.view_reads.specs.Bounds.{IsBoundedLink, IsBoundedBacks}
+use Rattle.world_cells.specs.Reads.{link_cmp, in_span}
+use Rattle.view_reads.specs.Narrowing.{is_behind, narrowed}
+use Rattle.view_reads.specs.Bounds.{IsBoundedLink, IsBoundedKey, IsBoundedBacks}
 use Rattle.view_reads.proofs.Sorted.{is_less}
 
 -- ---- texts, the shorter ones first
@@ -182,3 +183,21 @@ backs_left s = most (room 64) (2 ^ 32) - span_rank (room 64) (2 ^ 32) (after_of 
 pub short_id : (a b : Bool) (n : ℕ) → ((a && leb n 64) && b) ≡ true → n ≤ 64
 short_id true b n h = leb-true n 64 (and_true _ _ h).0
 short_id false b n h = cc h
+
+all_small : (after : Option (Key × ℕ)) (to : Key) → IsBoundedBacks (span.Backs to after) → AreSmall (room 64) (2 ^ 32) after
+all_small None to b = tt
+all_small (Some l) to b = small l.0 l.1 b
+
+-- behind a key of it, a span of ways back can have fewer
+pub fewer_backs : (s : Span) (k : CellKey) → IsBoundedBacks s → IsBoundedKey k → in_span s k ≡ true → backs_left (narrowed false s k) < backs_left s
+unfolding backs_left after_of
+fewer_backs (span.Rows kind low high) k b c inside = absurd b
+fewer_backs (span.Backs to after) (cell_key.Row k) b c inside = cc inside
+fewer_backs (span.Backs to after) (cell_key.Counter n) b c inside = cc inside
+fewer_backs (span.Backs to after) (cell_key.Back t from rel) b c inside = after_less (room 64) (2 ^ 32) after from rel (all_small after to b) (small from rel c) (and_true _ _ inside).1
+
+pub still_bounded : (s : Span) (k : CellKey) → IsBoundedBacks s → IsBoundedKey k → in_span s k ≡ true → IsBoundedBacks (narrowed false s k)
+still_bounded (span.Rows kind low high) k b c inside = absurd b
+still_bounded (span.Backs to after) (cell_key.Row k) b c inside = cc inside
+still_bounded (span.Backs to after) (cell_key.Counter n) b c inside = cc inside
+still_bounded (span.Backs to after) (cell_key.Back t from rel) b c inside = c

@@ -38,3 +38,8 @@ IsKept from_top f writes span put None = (j : CellKey) → IsTrue (in_span span 
 IsKept from_top f writes span put (Some (k, c)) =
     IsTrue (in_span span k) × (unwritten f writes k ≡ Some c) × IsTrue (is_met_before from_top put k)
     × ((j : CellKey) → IsTrue (in_span span j) → IsTrue (is_met from_top j k) → unwritten f writes j ≡ None)
+
+-- the cell of a key at which nothing is written, or else what was found before
+abbrev pub unless_written : Option (Option Cell) → Option (CellKey × Cell) → CellKey × Cell → Option (CellKey × Cell)
+unless_written None last p = Some p
+unless_written (Some w) last p = last

@@ -91,6 +91,31 @@ impl<V: View> Recorder<V> {
         Ok(found)
     }
 
+    /// The last cell of a span and its key, as the span stands under what is written here; None exactly where it has no
+    /// cell. The part of the span from its high edge down to the cell that was found is added to the read set, and the whole
+    /// span where none was found.
+    ///
+    /// Its one error is want of memory, after which the recorder is as before.
+    pub fn last_in(
+        &mut self,
+        span: &Span,
+        work: &mut Work,
+    ) -> Result<Option<(&CellKey, &Cell)>, NoMemory>
+        ensures* after { sem 𝓛 (follows_so (the_row V.row) (the_row V.row) self.entry.ghost_name none (λ _ _. ⊤) (λ n. LookedLast V.cells self.old span.now result n)) }
+    {
+        let alloc = self.alloc;
+        let whole = span.copy(alloc)?;
+        let rest = span.copy(alloc)?;
+        let found = self.cells.last_in(rest, work);
+        let part = Part {
+            span: whole,
+            found: copied_key(alloc, &found)?,
+            from_top: true,
+        };
+        self.parts.push(part)?;
+        Ok(found)
+    }
+
     /// Writes a cell over the view.
     ///
     /// Its one error is want of memory, after which the recorder is as before.
