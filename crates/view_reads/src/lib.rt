@@ -8,6 +8,8 @@
 mod merging;
 mod recorder;
 mod spans;
+#[cfg(test)]
+mod tests;
 mod views;
 mod writes;
 

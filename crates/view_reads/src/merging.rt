@@ -119,10 +119,10 @@ fn last_kept<'a, V: View>(
     let Some((key, cell)) = view.last_in(&span, work) else {
         return None;
     };
-    if writes.at(key).is_none() {
-        return Some((key, cell));
+    match writes.at(key) {
+        Some(_) => walked(view, writes, span, work),
+        None => Some((key, cell)),
     }
-    walked(view, writes, span, work)
 }
 
 /// A view under writes.

@@ -27,3 +27,19 @@ pub trait View: Drop {
         ensures value { IsLastIn (cells self.now) span.now (option_map (λ p. (p.0.now, p.1.now)) result) }
         ensures work { work.new.done ≡ counted work.old.done };
 }
+
+impl<V: View> View for &V {
+    ghost cells = { λ s. V.cells s.now };
+
+    fn get(&self, key: &CellKey, work: &mut Work) -> Option<&Cell> {
+        V::get(*self, key, work)
+    }
+
+    fn first_in(&self, span: &Span, work: &mut Work) -> Option<(&CellKey, &Cell)> {
+        V::first_in(*self, span, work)
+    }
+
+    fn last_in(&self, span: &Span, work: &mut Work) -> Option<(&CellKey, &Cell)> {
+        V::last_in(*self, span, work)
+    }
+}
