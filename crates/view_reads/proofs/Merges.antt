@@ -222,6 +222,14 @@ at_most_all span (w ∷ ws) = omega (arith, one_at_most (in_span span w.key) tru
 pub counted_once : (n : ℕ) → counted n ≤ n + 1
 counted_once n = omega arith
 
+-- one step of work passes one write
+pub work_step : (before made start all left less : ℕ) → made ≡ counted before → before + left ≤ start + all → less < left → made + less ≤ start + all
+work_step before made start all left less is within fewer = let once : made ≤ before + 1 = subst (λ (n : ℕ). n ≤ before + 1) (sym is) (counted_once before) in omega (arith, once)
+
+-- the last step of work
+pub work_last : (before made start all left : ℕ) → made ≡ counted before → before + left ≤ start + all → made ≤ start + all + 1
+work_last before made start all left is within = let once : made ≤ before + 1 = subst (λ (n : ℕ). n ≤ before + 1) (sym is) (counted_once before) in omega (arith, once)
+
 -- ---- the words of the worlds' definitions
 
 pub is_first : (f : Cells) (span : Span) (found : Option (CellKey × Cell)) → IsMet false f span found → IsFirstIn f span found

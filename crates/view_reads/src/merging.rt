@@ -53,7 +53,8 @@ fn kept<'a, V: View>(
     work: &mut Work,
 ) -> Option<(&'a CellKey, &'a Cell)>
     requires { CanNarrow from_top span }
-    ensures { IsKept from_top (V.cells view.now) writes.now span (option_map pair_now put.now) (option_map pair_now result) }
+    ensures value { IsKept from_top (V.cells view.now) writes.now span (option_map pair_now put.now) (option_map pair_now result) }
+    ensures work { work.new.done ≤ work.old.done + length writes.now + 1 }
 {
     let mut rest = span;
     while let Some((key, cell)) = met_in(from_top, view, &rest, work) {
@@ -149,7 +150,8 @@ impl<V: View> Overlaid<V> {
 
     /// The first cell of a span.
     pub(crate) fn first_in(&self, span: Span, work: &mut Work) -> Option<(&CellKey, &Cell)>
-        ensures { IsFirstIn (overlay (V.cells self.now.view) self.now.writes) span (option_map pair_now result) }
+        ensures value { IsFirstIn (overlay (V.cells self.now.view) self.now.writes) span (option_map pair_now result) }
+        ensures work { work.new.done ≤ work.old.done + length self.now.writes + 1 }
     {
         self.met(false, span, work)
     }
@@ -157,7 +159,8 @@ impl<V: View> Overlaid<V> {
     /// The cell of a span that a search meets first.
     fn met(&self, from_top: bool, span: Span, work: &mut Work) -> Option<(&CellKey, &Cell)>
         requires { CanNarrow from_top span }
-        ensures { IsMet from_top (overlay (V.cells self.now.view) self.now.writes) span (option_map pair_now result) }
+        ensures value { IsMet from_top (overlay (V.cells self.now.view) self.now.writes) span (option_map pair_now result) }
+        ensures work { work.new.done ≤ work.old.done + length self.now.writes + 1 }
     {
         let put = self.writes.met_put(from_top, &span);
         match kept(from_top, &self.view, &self.writes, span, &put, work) {

@@ -1,4 +1,4 @@
-ghost use Rattle.std.specs.Prelude.{◌≡◌, [], IfOk, OnOk, OnErr, Some, None, map};
+ghost use Rattle.std.specs.Prelude.{◌≡◌, ◌≤◌, ◌+◌, length, [], IfOk, OnOk, OnErr, Some, None, map};
 ghost use Rattle.std.specs.Option.{option_copied, option_map};
 ghost use Rattle.world_cells.specs.Reads.{overlay, AreRisingKeys};
 ghost use Rattle.view_reads.specs.Counts.{counted};
@@ -77,6 +77,7 @@ impl<V: View> Recorder<V> {
         work: &mut Work,
     ) -> Result<Option<(&CellKey, &Cell)>, NoMemory>
         ensures* after { sem 𝓛 (follows_so (the_row V.row) (the_row V.row) self.entry.ghost_name none (λ _ _. ⊤) (λ n. LookedFirst V.cells self.old span.now result n)) }
+        ensures work { work.new.done ≤ work.old.done + length self.old.writes + 1 }
     {
         let alloc = self.alloc;
         let whole = span.copy(alloc)?;
