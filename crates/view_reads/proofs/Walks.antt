@@ -1,5 +1,5 @@
 -- A walk over the ways back to the last cell that nothing hides.
-use Rattle.std.proofs.Common.{◌≡◌, ◌⊎◌, inl, inr, List, refl, sym, ap, ◌∙◌, Bool, true, false, Option, Some, None}
+use Rattle.std.proofs.Common.{◌≡◌, ◌⊎◌, inl, inr, List, refl, sym, ap, subst, ◌∙◌, Bool, true, false, Option, Some, None}
 use Rattle.std.specs.Prelude.{◌&&◌, IsTrue}
 use Rattle.std.specs.declared.cmp.Ordering.{Ordering}
 use Rattle.std.specs.declared.cmp.Ordering.TheVariants.{Less, Equal, Greater}
@@ -93,6 +93,13 @@ walk_step f ws span rest last p walked met = record {
       (λ same. ap (λ i. is_lt (cell_key_cmp i k)) same ∙ further.1);
   found = step_found f ws span rest last p walked met (find cell_key_cmp p.0 (entries_of ws)) refl;
 }
+
+-- the same, of the span and the cell that the code then has
+pub walk_on : (f : Cells) (ws : List Written) (span rest : Span) (last : Option (CellKey × Cell)) (p : CellKey × Cell) (left : Span) (found : Option (CellKey × Cell)) → left ≡ narrowed false rest p.0
+    → found ≡ unless_written (find cell_key_cmp p.0 (entries_of ws)) last p → IsWalked (unwritten f ws) span rest last → IsMet false f rest (Some p) → IsWalked (unwritten f ws) span left found
+walk_on f ws span rest last p left found narrow keep walked met =
+    subst (λ (s : Span). IsWalked (unwritten f ws) span s found) (sym narrow)
+    (subst (λ (o : Option (CellKey × Cell)). IsWalked (unwritten f ws) span (narrowed false rest p.0) o) (sym keep) (walk_step f ws span rest last p walked met))
 
 pub walk_end : (f : Cells) (ws : List Written) (span rest : Span) (last : Option (CellKey × Cell)) → IsWalked (unwritten f ws) span rest last → IsMet false f rest None → IsMet true (unwritten f ws) span last
 walk_end f ws span rest None walked none = λ j inside. by_left (in_span rest j) (λ here. unwritten_none f ws j (none j here)) (λ gone. walked.found j inside gone)

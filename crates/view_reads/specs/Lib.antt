@@ -4,3 +4,4 @@ pub mod Merging
 pub mod Narrowing
 pub mod Places
 pub mod Recording
+pub mod RecordingLaws

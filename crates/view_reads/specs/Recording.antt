@@ -1,5 +1,5 @@
 -- What a recorder has read and written, and what its calls answer and leave.
-use Rattle.std.specs.Prelude.{◌≡◌, true, false, Bool, ◌++◌, List, [], ◌∷◌, Option, Some, None, Result, Ok, Err}
+use Rattle.std.specs.Prelude.{◌≡◌, true, false, Bool, IsTrue, ◌++◌, List, [], ◌∷◌, Option, Some, None, Result, Ok, Err}
 use Rattle.std.specs.Borrow.{Bor}
 use Rattle.std.specs.Option.{option_copied, option_map}
 use Rattle.ident_rules.specs.declared.memory.NoMemory.{NoMemory}
@@ -8,7 +8,7 @@ use Rattle.world_cells.specs.declared.cells.Cell.{Cell}
 use Rattle.world_cells.specs.declared.spans.Span.{Span}
 use Rattle.world_cells.specs.declared.sets.ReadSet.{ReadSet}
 use Rattle.world_cells.specs.declared.sets.Written.{Written}
-use Rattle.world_cells.specs.Reads.{Cells, overlay, IsFirstIn, IsLastIn}
+use Rattle.world_cells.specs.Reads.{Cells, covers, overlay, IsFirstIn, IsLastIn}
 
 -- the view below, what was read of it, and what was written over it
 pub record Recording (V : Type 0) : Type 0 where
@@ -46,3 +46,8 @@ LookedLast cells old span (Ok found) new =
     IsLastIn (overlay (cells old.store) old.writes) span (option_map pair_now found)
     × (new ≡ record old { reads = read_part old.reads span (option_map (λ p. p.0.now) found) true })
 LookedLast cells old span (Err e) new = new ≡ old
+
+-- a recording of the same view whose reads cover at least as much
+pub record Follows {V : Type 0} (before after : Recording V) : Type 0 where
+  pub store : after.store ≡ before.store
+  pub reads : (k : CellKey) → IsTrue (covers before.reads k) → IsTrue (covers after.reads k)

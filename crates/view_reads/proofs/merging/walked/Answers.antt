@@ -8,7 +8,7 @@ use Rattle.view_reads.specs.Merging.{unwritten}
 use Rattle.view_reads.specs.Narrowing.{narrowed}
 use Rattle.view_reads.specs.Recording.{pair_now}
 use Rattle.view_reads.proofs.Ranks.{backs_left, fewer_backs, still_bounded}
-use Rattle.view_reads.proofs.Walks.{IsWalked, walk_step, walk_end}
+use Rattle.view_reads.proofs.Walks.{walk_on, walk_end}
 use Rattle.view_reads.proofs.merging.walked.Goals as goal
 
 pub loop-key-smaller : goal.loop-key-smaller
@@ -19,11 +19,8 @@ loop-key-smaller g c =
 pub loop-key-preserved : goal.loop-key-preserved
 loop-key-preserved g c = record {
   bounded = subst IsBoundedBacks (sym c.narrowed-rest.ensures) (still_bounded c.loop-key.rest c.in-Some.key.now c.loop-key.invariant.bounded c.bound_key.ensures c.in-Some.ensures.value.0);
-  walked =
-      let shown = unwritten (g.V.View.cells c.args.view.now) c.args.writes.now in
-      subst (λ (s : Span). IsWalked shown c.args.span s (option_map pair_now c.unless_written-last.result)) (sym c.narrowed-rest.ensures)
-      (subst (λ (o : Option (CellKey × Cell)). IsWalked shown c.args.span (narrowed false c.loop-key.rest c.in-Some.key.now) o) (sym c.unless_written-last.ensures)
-      (walk_step _ c.args.writes.now c.args.span c.loop-key.rest (option_map pair_now c.loop-key.last) (c.in-Some.key.now, c.in-Some.cell.now) c.loop-key.invariant.walked c.in-Some.ensures.value));
+  walked = walk_on _ c.args.writes.now c.args.span c.loop-key.rest (option_map pair_now c.loop-key.last) (c.in-Some.key.now, c.in-Some.cell.now) c.narrowed-rest.result (option_map pair_now c.unless_written-last.result)
+      c.narrowed-rest.ensures c.unless_written-last.ensures c.loop-key.invariant.walked c.in-Some.ensures.value;
 }
 
 pub returns : goal.returns
