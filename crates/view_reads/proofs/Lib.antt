@@ -1,6 +1,6 @@
-pub mod Places
 pub mod Sorted
 pub mod Puts
+pub mod Places
 pub mod Narrows
 pub mod Merges
 pub mod Ranks

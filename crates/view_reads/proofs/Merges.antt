@@ -1,9 +1,9 @@
 -- Searching a view and the writes over it together.
-use Rattle.std.proofs.Common.{◌≡◌, ◌⊎◌, inl, inr, ℕ, ◌+◌, ◌-◌, ◌^◌, ◌<◌, ◌≤◌, List, [], ◌∷◌, length, min, refl, sym, ap, subst, ◌∙◌, Bool, true, false, Option, Some, None, arith}
-use Rattle.std.specs.Prelude.{cond, ◌&&◌, IsTrue, IsFalse, unwrap_or, option_map, is_some}
+use Rattle.std.proofs.Common.{◌≡◌, ◌⊎◌, inl, inr, ℕ, ◌+◌, ◌<◌, ◌≤◌, List, [], ◌∷◌, length, refl, sym, ap, subst, ◌∙◌, Bool, true, false, Option, Some, None, arith}
+use Rattle.std.specs.Prelude.{cond, ◌&&◌, IsTrue, unwrap_or, option_map, is_some}
 use Rattle.std.specs.declared.cmp.Ordering.{Ordering}
 use Rattle.std.specs.declared.cmp.Ordering.TheVariants.{Less, Equal, Greater}
-use Rattle.std.specs.Ordering.{is_lt, is_gt, is_eq, ordering_reverse}
+use Rattle.std.specs.Ordering.{is_lt, is_eq, ordering_reverse}
 use Rattle.std.specs.Cmp.{tied_itself}
 use Rattle.std.specs.FinMap.Entries.{find}
 use Rattle.world_cells.specs.declared.keys.CellKey.{CellKey}
@@ -15,7 +15,7 @@ use Rattle.world_cells.specs.Reads.{Cells, entries_of, overlay, in_span, IsFirst
 use Rattle.view_reads.specs.Counts.{counted}
 use Rattle.view_reads.specs.Narrowing.{IsMet, is_met, narrowed, CanNarrow}
 use Rattle.view_reads.specs.Merging.{nothing, hidden, unwritten, is_met_before, IsKept}
-use Rattle.view_reads.proofs.Sorted.{is_less, is_equal}
+use Rattle.view_reads.proofs.Sorted.{is_less}
 use Rattle.view_reads.proofs.Puts.{same_is}
 use Rattle.view_reads.proofs.Narrows.{and_true, narrowed_is, narrowed_can}
 

@@ -1,10 +1,9 @@
 -- What is left of a span behind a key of it.
-use Rattle.std.proofs.Common.{inl, inr, ◌≡◌, ℕ, List, refl, sym, ap, subst, ◌∙◌, Bool, true, false, Option, Some, None}
-use Rattle.std.specs.Prelude.{⊤, ◌==◌, cond, ◌&&◌, not, IsTrue, IsFalse}
-use Rattle.std.specs.Option.{option_map_or}
+use Rattle.std.proofs.Common.{inl, inr, ◌≡◌, ℕ, List, refl, sym, ap, ◌∙◌, Bool, true, false, Option, Some, None}
+use Rattle.std.specs.Prelude.{◌==◌, ◌&&◌, not, IsTrue}
 use Rattle.std.specs.declared.cmp.Ordering.{Ordering}
 use Rattle.std.specs.declared.cmp.Ordering.TheVariants.{Less, Equal, Greater}
-use Rattle.std.specs.Ordering.{is_lt, is_gt, is_eq, ordering_then, nat_cmp, ordering_reverse}
+use Rattle.std.specs.Ordering.{is_lt, is_gt, ordering_then, nat_cmp, ordering_reverse}
 use Rattle.std.specs.Cmp.{IsTotalOrder, nat_cmp_total, then_total, on_total, tied_itself}
 use Rattle.ident_rules.specs.declared.key.Key.{Key}
 use Rattle.ident_rules.specs.IdOrder.{id_cmp, id_cmp_total}

@@ -1,11 +1,11 @@
 -- What a walk over writes in order meets first in a span.
-use Rattle.std.proofs.Common.{◌≡◌, ℕ, ◌+◌, ◌<◌, List, [], ◌∷◌, ◌++◌, length, get_or, take, drop, map, refl, sym, ap, subst, ◌∙◌, Bool, true, false, Option, Some, None, T}
-use Rattle.std.specs.Prelude.{cond, ◌&&◌, IsTrue, IsFalse, unwrap_or, option_map}
+use Rattle.std.proofs.Common.{◌≡◌, ℕ, ◌+◌, ◌<◌, List, [], ◌∷◌, ◌++◌, length, get_or, take, drop, refl, sym, ap, subst, ◌∙◌, Bool, true, false, Option, Some, None, T}
+use Rattle.std.specs.Prelude.{cond, ◌&&◌, IsTrue, unwrap_or, option_map}
 use Rattle.std.specs.declared.cmp.Ordering.{Ordering}
 use Rattle.std.specs.declared.cmp.Ordering.TheVariants.{Less, Equal, Greater}
-use Rattle.std.specs.Ordering.{is_lt, is_gt, is_eq, ordering_reverse, eq_by_cmp}
+use Rattle.std.specs.Ordering.{is_lt, is_gt, is_eq, ordering_reverse}
 use Rattle.std.specs.Cmp.{tied_itself}
-use Rattle.std.specs.FinMap.Entries.{find, is_sorted, below_all, find-append}
+use Rattle.std.specs.FinMap.Entries.{find, below_all, find-append}
 use Rattle.std.proofs.lemmas.List.{drop_more, take_more, map_push, take-append-drop}
 use Rattle.std.proofs.Math.Seq.{drop-length}
 use Rattle.world_cells.specs.declared.keys.CellKey.{CellKey}
@@ -14,7 +14,7 @@ use Rattle.world_cells.specs.declared.spans.Span.{Span}
 use Rattle.world_cells.specs.declared.sets.Written.{Written}
 use Rattle.world_cells.specs.CellOrder.{cell_key_cmp, cell_key_cmp_total, cell_key_cmp-IsAntisymmetric, same_cell_key}
 use Rattle.world_cells.specs.Reads.{Cells, entries_of, overlay, in_span}
-use Rattle.view_reads.specs.Narrowing.{IsMet, is_met}
+use Rattle.view_reads.specs.Narrowing.{IsMet}
 use Rattle.view_reads.specs.Merging.{nothing, put_in}
 use Rattle.view_reads.specs.Places.{AreSorted}
 use Rattle.view_reads.proofs.Sorted.{both_T, true_T, is_less, is_equal}
@@ -47,7 +47,7 @@ not_below_above j k m down less = above_by j k m (cell_key_cmp j k) refl down (i
 
 -- ---- a list in order, from its head
 
-absent_below : (j k : CellKey) (es : List (CellKey × Option Cell)) → T (below_all cell_key_cmp k es) → is_gt (cell_key_cmp j k) ≡ false → find cell_key_cmp j es ≡ None
+pub absent_below : (j k : CellKey) (es : List (CellKey × Option Cell)) → T (below_all cell_key_cmp k es) → is_gt (cell_key_cmp j k) ≡ false → find cell_key_cmp j es ≡ None
 absent_below j k [] h up = refl
 absent_below j k (e ∷ es) h up =
     let parts = both_T _ _ h in
@@ -105,7 +105,7 @@ drop_sorted (x ∷ xs) ys h = drop_sorted xs ys (both_T _ _ h).1
 abbrev pub FirstOfRest : List Written → Span → ℕ → Type 0
 FirstOfRest ws span i = (found : Option (CellKey × Cell)) → IsMet false (overlay nothing (drop i ws)) span found → IsMet false (overlay nothing ws) span found
 
-rest_sorted : (ws : List Written) (i : ℕ) (d : Written) → i < length ws → AreSorted ws → AreSorted (get_or ws i d ∷ drop (i + 1) ws)
+pub rest_sorted : (ws : List Written) (i : ℕ) (d : Written) → i < length ws → AreSorted ws → AreSorted (get_or ws i d ∷ drop (i + 1) ws)
 rest_sorted ws i d lt h = subst AreSorted (drop_more ws i d lt) (drop_sorted (take i ws) (drop i ws) (subst AreSorted (sym (take-append-drop i ws)) h))
 
 pub first_past : (ws : List Written) (span : Span) (i : ℕ) (d : Written) → i < length ws → AreSorted ws → put_in (get_or ws i d) span ≡ None → FirstOfRest ws span i → FirstOfRest ws span (i + 1)

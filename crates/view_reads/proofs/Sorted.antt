@@ -1,16 +1,15 @@
 -- Writes in strictly ascending order of keys.
-use Rattle.std.proofs.Common.{◌≡◌, ℕ, List, [], ◌∷◌, ◌++◌, length, get_or, take, drop, map, refl, sym, ap, subst, ◌∙◌, Bool, true, false, Option, Some, None, T, Result, Ok, Err}
-use Rattle.std.specs.Prelude.{cond, ◌&&◌, not, IsTrue, IsFalse, unwrap_or, option_map, OnOk, OnErr}
+use Rattle.std.proofs.Common.{◌≡◌, List, [], ◌∷◌, map, refl, sym, subst, Bool, true, false, Option, T, Result, Ok, Err}
+use Rattle.std.specs.Prelude.{◌&&◌, OnOk, OnErr}
 use Rattle.std.specs.declared.cmp.Ordering.{Ordering}
 use Rattle.std.specs.declared.cmp.Ordering.TheVariants.{Less, Equal, Greater}
-use Rattle.std.specs.Ordering.{is_lt, is_eq, ordering_reverse, eq_by_cmp}
-use Rattle.std.specs.Cmp.{tied_itself}
-use Rattle.std.specs.FinMap.Entries.{find, put, is_sorted, below_all, is_sorted-put}
+use Rattle.std.specs.Ordering.{is_lt, is_eq}
+use Rattle.std.specs.FinMap.Entries.{is_sorted, is_sorted-put}
 use Rattle.ident_rules.specs.declared.memory.NoMemory.{NoMemory}
 use Rattle.world_cells.specs.declared.keys.CellKey.{CellKey}
 use Rattle.world_cells.specs.declared.cells.Cell.{Cell}
 use Rattle.world_cells.specs.declared.sets.Written.{Written}
-use Rattle.world_cells.specs.CellOrder.{cell_key_cmp, cell_key_cmp_total, cell_key_cmp-IsAntisymmetric}
+use Rattle.world_cells.specs.CellOrder.{cell_key_cmp, cell_key_cmp_total}
 use Rattle.world_cells.specs.Reads.{entries_of, AreRisingKeys}
 use Rattle.view_reads.specs.Places.{AreSorted, Wrote}
 

@@ -1,6 +1,6 @@
 -- A walk over the ways back to the last cell that nothing hides.
-use Rattle.std.proofs.Common.{◌≡◌, ◌⊎◌, inl, inr, List, refl, sym, ap, subst, ◌∙◌, Bool, true, false, Option, Some, None}
-use Rattle.std.specs.Prelude.{◌&&◌, IsTrue}
+use Rattle.std.proofs.Common.{◌≡◌, inl, inr, List, refl, sym, ap, subst, ◌∙◌, true, false, Option, Some, None}
+use Rattle.std.specs.Prelude.{◌&&◌}
 use Rattle.std.specs.declared.cmp.Ordering.{Ordering}
 use Rattle.std.specs.declared.cmp.Ordering.TheVariants.{Less, Equal, Greater}
 use Rattle.std.specs.Ordering.{is_lt, ordering_reverse}
@@ -11,7 +11,7 @@ use Rattle.world_cells.specs.declared.spans.Span.{Span}
 use Rattle.world_cells.specs.declared.sets.Written.{Written}
 use Rattle.world_cells.specs.CellOrder.{cell_key_cmp, cell_key_cmp_total}
 use Rattle.world_cells.specs.Reads.{Cells, entries_of, in_span}
-use Rattle.view_reads.specs.Narrowing.{IsMet, is_met, narrowed, CanNarrow}
+use Rattle.view_reads.specs.Narrowing.{IsMet, is_met, narrowed}
 use Rattle.view_reads.specs.Merging.{hidden, unwritten, unless_written, is_met_before, IsKept}
 use Rattle.view_reads.proofs.Narrows.{and_true, narrowed_is}
 use Rattle.view_reads.proofs.Merges.{by_left, less_trans, unwritten_none, hidden_here, met_or_same, itself, before_far}

@@ -1,5 +1,5 @@
 -- What a recorder has read and written, and what its calls answer and leave.
-use Rattle.std.specs.Prelude.{◌≡◌, true, false, Bool, IsTrue, ◌++◌, List, [], ◌∷◌, Option, Some, None, Result, Ok, Err}
+use Rattle.std.specs.Prelude.{◌≡◌, true, false, Bool, IsTrue, ◌++◌, List, [], ◌∷◌, Option, Result, Ok, Err}
 use Rattle.std.specs.Borrow.{Bor}
 use Rattle.std.specs.Option.{option_copied, option_map}
 use Rattle.ident_rules.specs.declared.memory.NoMemory.{NoMemory}

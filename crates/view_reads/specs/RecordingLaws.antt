@@ -1,6 +1,6 @@
 -- What a recorder answers is so in each world that agrees with the view on what was read.
 use Rattle.std.proofs.Common.{◌≡◌, List, [], ◌∷◌, ◌++◌, Bool, true, false, refl, sym, ap, subst, ◌∙◌, Option, Some, None, Ok}
-use Rattle.std.specs.Prelude.{◌||◌, IsTrue, not}
+use Rattle.std.specs.Prelude.{◌||◌, IsTrue}
 use Rattle.std.specs.Option.{option_copied, option_map}
 use Rattle.std.specs.List.{list_any}
 use Rattle.std.specs.Borrow.{Bor}
@@ -10,11 +10,10 @@ use Rattle.std.proofs.lemmas.List.Folds.{list_any-append}
 use Rattle.world_cells.specs.declared.keys.CellKey.{CellKey}
 use Rattle.world_cells.specs.declared.cells.Cell.{Cell}
 use Rattle.world_cells.specs.declared.spans.Span.{Span}
-use Rattle.world_cells.specs.declared.sets.Part.{Part}
 use Rattle.world_cells.specs.declared.sets.ReadSet.{ReadSet}
-use Rattle.world_cells.specs.CellOrder.{cell_key_cmp, cell_key_cmp_total, same_cell_key}
-use Rattle.world_cells.specs.Reads.{Cells, covers, in_part, AgreeOn, overlay, Leads, IsFirstIn, IsLastIn}
-use Rattle.world_cells.specs.CellLaws.{looks_alike, first_alike, last_alike, part_to, part_from}
+use Rattle.world_cells.specs.CellOrder.{cell_key_cmp_total, same_cell_key}
+use Rattle.world_cells.specs.Reads.{Cells, covers, in_part, AgreeOn, Leads, IsFirstIn, IsLastIn}
+use Rattle.world_cells.specs.CellLaws.{looks_alike, first_alike, last_alike}
 use Rattle.view_reads.specs.Recording.{Recording, read_key, read_part, Looked, LookedFirst, LookedLast, pair_now, Follows}
 
 -- ---- what reads cover
@@ -92,7 +91,7 @@ module _ {V : Type 0} (cells : V → Cells) where
   first_looked_alike f h old span found new looked agree leads =
       first_alike f (cells old.store) h new.reads old.writes span (option_map pair_now found)
       (λ j inside. subst (λ (r : Recording V). IsTrue (covers r.reads j)) (sym looked.1)
-          (part_read old.reads span (option_map (λ p. p.0.now) found) false j (ap (λ o. in_part (record { span = span; found = o; from_top = false }) j) (sym (found_key found)) ∙ inside)))
+      (part_read old.reads span (option_map (λ p. p.0.now) found) false j (ap (λ o. in_part (record { span = span; found = o; from_top = false }) j) (sym (found_key found)) ∙ inside)))
       agree leads looked.0
 
   pub last_looked_alike : (f h : Cells) (old : Recording V) (span : Span) (found : Option (Bor CellKey × Bor Cell)) (new : Recording V) → LookedLast cells old span (Ok found) new
@@ -100,5 +99,5 @@ module _ {V : Type 0} (cells : V → Cells) where
   last_looked_alike f h old span found new looked agree leads =
       last_alike f (cells old.store) h new.reads old.writes span (option_map pair_now found)
       (λ j inside. subst (λ (r : Recording V). IsTrue (covers r.reads j)) (sym looked.1)
-          (part_read old.reads span (option_map (λ p. p.0.now) found) true j (ap (λ o. in_part (record { span = span; found = o; from_top = true }) j) (sym (found_key found)) ∙ inside)))
+      (part_read old.reads span (option_map (λ p. p.0.now) found) true j (ap (λ o. in_part (record { span = span; found = o; from_top = true }) j) (sym (found_key found)) ∙ inside)))
       agree leads looked.0

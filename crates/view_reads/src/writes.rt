@@ -47,7 +47,10 @@ impl Writes {
     pub(crate) fn at(&self, key: &CellKey) -> Option<&Written>
         ensures { option_map (λ w. w.now.cell) result ≡ find cell_key_cmp key.now (entries_of self.now) }
     {
-        write_at(&self.items, key)
+        match place_of(&self.items, key) {
+            Ok(at) => Some(&self.items[at]),
+            Err(_) => None,
+        }
     }
 
     /// The cell that a search of a span meets first among those that are put.
@@ -84,18 +87,6 @@ impl Writes {
         let Writes { items } = self;
         List::from_vec(items)
     }
-}
-
-/// What is written at a key, if anything.
-fn write_at<'a>(writes: &'a [Written], key: &CellKey) -> Option<&'a Written>
-    ensures { option_map (λ w. w.now.cell) result ≡ find cell_key_cmp key.now (entries_of writes.now) }
-{
-    for written in writes {
-        if *key == written.key {
-            return Some(written);
-        }
-    }
-    None
 }
 
 /// What a write puts into a span, if anything.
@@ -140,21 +131,26 @@ fn last_put<'a>(writes: &'a [Written], span: &Span) -> Option<(&'a CellKey, &'a 
     None
 }
 
-/// The place of a key, or else the place where it would stand.
+/// The place of a key, or else the place where it would stand, by halves.
 fn place_of(writes: &[Written], key: &CellKey) -> Result<usize, usize>
+    requires { AreSorted writes.now }
     ensures { MatchResult result (IsThere writes.now key.now) (IsBetween writes.now key.now) }
 {
-    for (at, written) in writes.iter().enumerate() {
-        match key.cmp(&written.key) {
-            Ordering::Less => return Err(at),
-            Ordering::Equal => return Ok(at),
-            Ordering::Greater => {}
+    let mut low = 0;
+    let mut high = writes.len();
+    while low < high {
+        let middle = low + (high - low) / 2;
+        match key.cmp(&writes[middle].key) {
+            Ordering::Less => high = middle,
+            Ordering::Equal => return Ok(middle),
+            Ordering::Greater => low = middle + 1,
         }
     }
-    Err(writes.len())
+    Err(low)
 }
 
 fn write_cell(writes: &mut Vec<Written>, key: CellKey, cell: Option<Cell>) -> Result<(), NoMemory>
+    requires { AreSorted writes.old.items }
     ensures ok { OnOk result (Wrote writes.old.items key cell writes.new.items) }
     ensures err { OnErr result (writes.new.items ≡ writes.old.items) }
 {

@@ -1,11 +1,7 @@
-use Rattle.std.proofs.Common.{false, ◌<◌, Option, sym, subst}
+use Rattle.std.proofs.Common.{◌<◌, sym, subst}
 use Rattle.std.specs.Option.{option_map}
-use Rattle.world_cells.specs.declared.keys.CellKey.{CellKey}
-use Rattle.world_cells.specs.declared.cells.Cell.{Cell}
 use Rattle.world_cells.specs.declared.spans.Span.{Span}
 use Rattle.view_reads.specs.Bounds.{IsBoundedBacks}
-use Rattle.view_reads.specs.Merging.{unwritten}
-use Rattle.view_reads.specs.Narrowing.{narrowed}
 use Rattle.view_reads.specs.Recording.{pair_now}
 use Rattle.view_reads.proofs.Ranks.{backs_left, fewer_backs, still_bounded}
 use Rattle.view_reads.proofs.Walks.{walk_on, walk_end}

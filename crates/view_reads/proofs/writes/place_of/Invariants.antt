@@ -1,8 +1,15 @@
-use Rattle.std.proofs.Common.{Option}
-use Rattle.world_cells.specs.declared.cells.Cell.{Cell}
-use Rattle.world_cells.specs.Reads.{entries_of}
-use Rattle.view_reads.specs.Places.{PutsFrom}
+use Rattle.std.proofs.Common.{◌≤◌, ◌-◌, length}
+use Rattle.view_reads.specs.Places.{IsFrom}
+use Rattle.view_reads.proofs.Places.{IsUpTo}
 use Rattle.view_reads.proofs.writes.place_of.Given as goal
 
-abbrev pub invariant-loop-at : goal.invariant-loop-at
-invariant-loop-at l = (cell : Option Cell) → PutsFrom l.key cell (entries_of l.writes) l.at
+abbrev pub invariant-loop-low : goal.invariant-loop-low
+invariant-loop-low l = record {
+  ordered : l.low ≤ l.high;
+  within : l.high ≤ length l.writes;
+  behind : IsFrom l.writes l.key l.low;
+  before : IsUpTo l.writes l.key l.high;
+}
+
+abbrev pub decreases-loop-low : goal.decreases-loop-low
+decreases-loop-low l = l.high - l.low

@@ -1,4 +1,4 @@
-use Rattle.std.proofs.Common.{◌≡◌, List, ap, sym, ◌∙◌, arith, subst, set}
+use Rattle.std.proofs.Common.{List, sym, subst, set}
 use Rattle.world_cells.specs.declared.sets.Written.{Written}
 use Rattle.view_reads.specs.Places.{Wrote, IsThere, IsBetween}
 use Rattle.view_reads.proofs.Places.{wrote_over, wrote_new}
