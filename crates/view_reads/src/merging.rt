@@ -171,7 +171,8 @@ impl<V: View> Overlaid<V> {
 
     /// The last cell of a span.
     pub(crate) fn last_in(&self, span: Span, work: &mut Work) -> Option<(&CellKey, &Cell)>
-        ensures { IsLastIn (overlay (V.cells self.now.view) self.now.writes) span (option_map pair_now result) }
+        ensures value { IsLastIn (overlay (V.cells self.now.view) self.now.writes) span (option_map pair_now result) }
+        ensures work { CanNarrow true span → work.new.done ≤ work.old.done + length self.now.writes + 1 }
     {
         match &span {
             Span::Rows { .. } => self.met(true, span, work),

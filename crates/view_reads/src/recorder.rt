@@ -1,7 +1,8 @@
-ghost use Rattle.std.specs.Prelude.{◌≡◌, ◌≤◌, ◌+◌, length, [], IfOk, OnOk, OnErr, Some, None, map};
+ghost use Rattle.std.specs.Prelude.{◌≡◌, true, ◌≤◌, ◌+◌, length, [], IfOk, OnOk, OnErr, Some, None, map};
 ghost use Rattle.std.specs.Option.{option_copied, option_map};
 ghost use Rattle.world_cells.specs.Reads.{overlay, AreRisingKeys};
 ghost use Rattle.view_reads.specs.Counts.{counted};
+ghost use Rattle.view_reads.specs.Narrowing.{CanNarrow};
 ghost use Rattle.view_reads.specs.Places.{Wrote};
 ghost use Rattle.view_reads.specs.Recording.{read_key};
 
@@ -68,7 +69,7 @@ impl<V: View> Recorder<V> {
 
     /// The first cell of a span and its key, as the span stands under what is written here; None exactly where it has no
     /// cell. The part of the span from its low edge to the cell that was found is added to the read set, and the whole span
-    /// where none was found.
+    /// where none was found. The view is looked at once, and once more for each removed cell that is passed.
     ///
     /// Its one error is want of memory, after which the recorder is as before.
     pub fn first_in(
@@ -94,7 +95,8 @@ impl<V: View> Recorder<V> {
 
     /// The last cell of a span and its key, as the span stands under what is written here; None exactly where it has no
     /// cell. The part of the span from its high edge down to the cell that was found is added to the read set, and the whole
-    /// span where none was found.
+    /// span where none was found. The view is looked at as in `first_in`; but a span of ways back has no edge above, so where
+    /// its last cell is overwritten here, all of it is walked through.
     ///
     /// Its one error is want of memory, after which the recorder is as before.
     pub fn last_in(
@@ -103,6 +105,7 @@ impl<V: View> Recorder<V> {
         work: &mut Work,
     ) -> Result<Option<(&CellKey, &Cell)>, NoMemory>
         ensures* after { sem 𝓛 (follows_so (the_row V.row) (the_row V.row) self.entry.ghost_name none (λ _ _. ⊤) (λ n. LookedLast V.cells self.old span.now result n)) }
+        ensures work { CanNarrow true span.now → work.new.done ≤ work.old.done + length self.old.writes + 1 }
     {
         let alloc = self.alloc;
         let whole = span.copy(alloc)?;

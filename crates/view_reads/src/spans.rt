@@ -106,7 +106,7 @@ pub(crate) fn narrowed(from_top: bool, span: Span, key: &CellKey) -> Span
     }
 }
 
-/// What the type of bytes keeps.
+/// What the type of bytes keeps. This and the next three do nothing: they are called for what their contracts say.
 fn bound_bytes(bytes: &[u8])
     ensures { (k : ℕ) → k < length bytes.now → slice_index bytes.now k < 256 }
 {
