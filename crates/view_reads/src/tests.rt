@@ -73,15 +73,15 @@ fn places(back: bool) -> Span {
     }
 }
 
-/// A recorder over the cells 2, 4 and 6, and cells outside of all spans.
-fn recorder(alloc: Global, back: bool) -> Result<Recorder<Shelf>, NoMemory> {
+/// The cells 2, 4 and 6, and cells outside of all spans.
+fn filled_shelf(alloc: Global, back: bool) -> Result<Shelf, NoMemory> {
     let mut cells = Writes::new(alloc);
     for number in [6, 2, 4] {
         cells.write(place(back, number), Some(Cell::Counter(1)))?;
     }
     cells.write(CellKey::Row(key(0, 1)), Some(Cell::Counter(1)))?;
     cells.write(CellKey::Counter(1), Some(Cell::Counter(1)))?;
-    Ok(Recorder::new(alloc, Shelf { cells }))
+    Ok(Shelf { cells })
 }
 
 /// Whether a cell was found at the place with this number, or none where that is 0.
@@ -111,7 +111,7 @@ fn meets_first_and_last(rt: HostRuntime) -> Result<(), Fail> {
     ];
     for back in [false, true] {
         for (put, removed, first, last) in rows {
-            let mut recorder = recorder(rt.alloc(), back)?;
+            let mut recorder = Recorder::new(rt.alloc(), filled_shelf(rt.alloc(), back)?);
             let mut work = Work::new();
             for number in put {
                 recorder.put(place(back, *number), Cell::Counter(2))?;
@@ -142,7 +142,7 @@ fn meets_within_edges(rt: HostRuntime) -> Result<(), Fail> {
             0,
         ),
     ];
-    let mut recorder = recorder(rt.alloc(), false)?;
+    let mut recorder = Recorder::new(rt.alloc(), filled_shelf(rt.alloc(), false)?);
     let mut work = Work::new();
     for (low, high, first, last) in rows {
         let span = Span::Rows { kind: 1, low, high };
@@ -155,7 +155,7 @@ fn meets_within_edges(rt: HostRuntime) -> Result<(), Fail> {
 
 #[test]
 fn notes_what_it_reads(rt: HostRuntime) -> Result<(), Fail> {
-    let mut recorder = recorder(rt.alloc(), false)?;
+    let mut recorder = Recorder::new(rt.alloc(), filled_shelf(rt.alloc(), false)?);
     let mut work = Work::new();
     assert!(rt; recorder.get(&place(false, 4), &mut work)?.is_some());
     recorder.remove(place(false, 4))?;
@@ -181,11 +181,13 @@ fn notes_what_it_reads(rt: HostRuntime) -> Result<(), Fail> {
 
 #[test]
 fn keeps_writes_in_order(rt: HostRuntime) -> Result<(), Fail> {
-    let mut recorder = recorder(rt.alloc(), false)?;
+    let shelf = filled_shelf(rt.alloc(), false)?;
+    let mut recorder = Recorder::new(rt.alloc(), &shelf);
     for number in [5, 1, 10, 5] {
         recorder.put(place(false, number), Cell::Counter(number))?;
     }
     recorder.remove(place(false, 3))?;
+    assert!(rt; recorder.get(&place(false, 4), &mut Work::new())?.is_some());
     let (_, writes) = recorder.finish();
     let writes = writes.cells.as_slice();
     assert_eq!(rt; writes.len(), 4);
