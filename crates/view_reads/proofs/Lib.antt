@@ -1,0 +1,7 @@
+pub mod Sorted
+pub mod Puts
+pub mod Places
+pub mod Narrows
+pub mod Merges
+pub mod Ranks
+pub mod Walks
