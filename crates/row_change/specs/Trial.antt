@@ -40,4 +40,4 @@ TellsChange schema cells at operation old_lids new_lids before after result =
 abbrev pub StaysInReach : {V : Type 0} → Schema → (V → Cells) → Operation → Lids → Recording V → Recording V → Type 0
 StaysInReach schema cells operation lids before after =
     (w now : World) → IsValid schema w → ((k : CellKey) → cell_at schema w k ≡ cells before.store k) → IsValid schema now → Leads (cell_at schema w) before.writes (cell_at schema now)
-    → (k : CellKey) → IsTrue (covers after.reads k) → IsFalse (covers before.reads k) → IsTrue (reach_operation schema now lids operation k)
+    → (k : CellKey) → IsTrue (covers after.reads k) → IsFalse (covers before.reads k) → IsTrue (reach_operation now lids operation k)
