@@ -90,6 +90,7 @@ module _ {A B : Type 0} (name : A → List ℕ) (f : A × B → Data) (p : A × 
         no_second : (zs : List A) → shown zs [] ≡ []
         no_second [] = refl
         no_second (z ∷ zs) = refl
+
         empty : (xs ≡ []) ⊎ (ys ≡ []) → shown xs ys ≡ []
         empty (inl e) = ap (λ zs. shown zs ys) e
         empty (inr e) = ap (shown xs) e ∙ no_second xs

@@ -76,7 +76,15 @@ pub fn relationship_members(
     let relationships = schema.relationships_of(kind);
     for (relationship, link) in relationships.iter().zip(row.links.as_slice()) {
         let shown = is_shown(fields, kind, relationship.name.as_str());
-        match put_relationship(&mut members, alloc, schema, &row.key, shown, relationship, link) {
+        match put_relationship(
+            &mut members,
+            alloc,
+            schema,
+            &row.key,
+            shown,
+            relationship,
+            link,
+        ) {
             Ok(()) => {}
             Err(NoMemory) => return Err(NoMemory),
         }
