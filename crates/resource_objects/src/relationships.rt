@@ -1,6 +1,6 @@
 ghost use Rattle.std.specs.Prelude.{◌≡◌, IfOk, OnOk};
 ghost use Rattle.serde_json.specs.View.{view, members_view};
-ghost use Rattle.store_model.specs.Resource.{is_shown, members_of, relationship_object, relationship_members};
+ghost use Rattle.store_model.specs.Resource.{members_of, relationship_object, relationship_members};
 ghost use Rattle.resource_objects.specs.Objects.{put_if, relationship_parts};
 
 use crate::fields::is_shown;
