@@ -1,0 +1,3 @@
+pub mod BuiltPlans
+pub mod Stops
+pub mod Stub
