@@ -14,9 +14,9 @@ ghost use Rattle.task_forms.specs.declared.tasks.ReplyForm.TheVariants.{Empty};
 ghost use Rattle.request_tasks.specs.Stops.{Gives};
 ghost use Rattle.request_tasks.specs.Stub.{IsReadVec};
 
+use crate::reader_stub::{read_create, read_members, read_update};
 use crate::replies::{refuse, refuse_document};
 use crate::stops::Stop;
-use crate::reader_stub::{read_create, read_members, read_update};
 use error_objects::{Code, Read, Refusal};
 use http_messages::Message;
 use ident_rules::{Key, List, NoMemory};
@@ -160,7 +160,11 @@ fn update_task(
 fn remove_task(alloc: Global, key: &Key) -> Result<Task, NoMemory>
     ensures { IfOk result (λ t. t ≡ change Empty (Remove (by_path key.now))) }
 {
-    change(alloc, ReplyForm::Empty, Operation::Remove { who: by_path(key) })
+    change(
+        alloc,
+        ReplyForm::Empty,
+        Operation::Remove { who: by_path(key) },
+    )
 }
 
 /// The task of a method on a resource.

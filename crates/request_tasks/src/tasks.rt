@@ -30,11 +30,7 @@ fn judged(alloc: Global, how: Judged) -> Result<(), Stop<Refusal>>
 {
     match how {
         Judged::Good => Ok(()),
-        Judged::BadType => Err(refuse_header(
-            alloc,
-            Code::UnsupportedMediaType,
-            "Content-Type",
-        )),
+        Judged::BadType => Err(refuse_header(alloc, Code::UnsupportedMediaType, "Content-Type")),
         Judged::BadEncoding => Err(refuse_header(
             alloc,
             Code::UnsupportedMediaType,

@@ -9,16 +9,21 @@ use std::test::Fail;
 use task_forms::{Operation, Plan, Planner, ReplyForm, Task};
 
 const NO_FIELD: &[(&str, &str)] = &[];
+
 const JSON_API: &[(&str, &str)] = &[("Content-Type", "application/vnd.api+json")];
+
 const PLAIN: &[(&str, &str)] = &[("content-type", "text/plain")];
+
 const ATOMIC: &[(&str, &str)] = &[(
     "Content-Type",
     "application/vnd.api+json; ext=\"https://jsonapi.org/ext/atomic\"",
 )];
+
 const UNACCEPTABLE: &[(&str, &str)] = &[
     ("Content-Type", "application/vnd.api+json"),
     ("Accept", "application/vnd.api+json; charset=utf-8"),
 ];
+
 const ALL_WRONG: &[(&str, &str)] = &[
     ("Content-Type", "text/plain"),
     ("Accept", "application/vnd.api+json; charset=utf-8"),
@@ -133,14 +138,56 @@ fn plans_requests_of_notes(rt: HostRuntime) -> Result<(), Fail> {
     let rows: [(&str, &str, &[(&str, &str)], &str, &str); 26] = [
         ("BREW", "notes", ALL_WRONG, "{", "400 bad-target"),
         ("BREW", "/nothing", ALL_WRONG, "{", "404 not-found"),
-        ("BREW", "/notes?x=1", ALL_WRONG, "{", "405 method-not-allowed collection"),
-        ("PUT", "/notes/1", NO_FIELD, "", "405 method-not-allowed resource"),
-        ("get", "/notes/1", NO_FIELD, "", "405 method-not-allowed resource"),
-        ("GET", "/operations", NO_FIELD, "", "405 method-not-allowed operations"),
-        ("POST", "/notes", ALL_WRONG, "{", "415 unsupported-media-type"),
+        (
+            "BREW",
+            "/notes?x=1",
+            ALL_WRONG,
+            "{",
+            "405 method-not-allowed collection",
+        ),
+        (
+            "PUT",
+            "/notes/1",
+            NO_FIELD,
+            "",
+            "405 method-not-allowed resource",
+        ),
+        (
+            "get",
+            "/notes/1",
+            NO_FIELD,
+            "",
+            "405 method-not-allowed resource",
+        ),
+        (
+            "GET",
+            "/operations",
+            NO_FIELD,
+            "",
+            "405 method-not-allowed operations",
+        ),
+        (
+            "POST",
+            "/notes",
+            ALL_WRONG,
+            "{",
+            "415 unsupported-media-type",
+        ),
         ("POST", "/notes", PLAIN, new, "415 unsupported-media-type"),
-        ("POST", "/operations", JSON_API, "{", "415 unsupported-media-type"),
-        ("POST", "/notes?x=1", UNACCEPTABLE, "{", "406 not-acceptable"),
+        (
+            "POST",
+            "/operations",
+            JSON_API,
+            "{",
+            "415 unsupported-media-type",
+        ),
+        (
+            "POST",
+            "/notes?x=1",
+            UNACCEPTABLE,
+            "{",
+            "406 not-acceptable",
+        ),
         ("GET", "/notes", UNACCEPTABLE, "", "406 not-acceptable"),
         ("GET", "/notes", NO_FIELD, "", "501 not-built"),
         ("HEAD", "/notes?x=1", NO_FIELD, "", "501 not-built"),
@@ -153,10 +200,139 @@ fn plans_requests_of_notes(rt: HostRuntime) -> Result<(), Fail> {
         ("DELETE", "/notes/1", NO_FIELD, "", "remove, empty"),
         ("POST", "/notes", JSON_API, "{", "400 bad-json"),
         ("PATCH", "/notes/1", JSON_API, "{}", "400 bad-document"),
-        ("POST", "/notes", JSON_API, first, "403 client-id-unsupported"),
+        (
+            "POST",
+            "/notes",
+            JSON_API,
+            first,
+            "403 client-id-unsupported",
+        ),
         ("POST", "/notes", JSON_API, new, "create, created"),
         ("PATCH", "/notes/2", JSON_API, first, "409 id-mismatch"),
         ("PATCH", "/notes/1", JSON_API, first, "update, updated"),
+    ];
+    for (method, target, fields, body, want) in rows {
+        let message = message(alloc, method, target, fields, body)?;
+        let plan = planner.plan(alloc, &message)?;
+        assert_eq!(rt; words_of(alloc, &plan)?.as_str(), want, "{method} {target}");
+    }
+    Ok(())
+}
+
+fn articles_name() -> Name
+    ensures { result ≡ codes "articles" }
+{
+    let Ok(name) = read_name("articles") else {
+        unreachable!()
+    };
+    name
+}
+
+fn people_name() -> Name
+    ensures { result ≡ codes "people" }
+{
+    let Ok(name) = read_name("people") else {
+        unreachable!()
+    };
+    name
+}
+
+fn author_name() -> Name
+    ensures { result ≡ codes "author" }
+{
+    let Ok(name) = read_name("author") else {
+        unreachable!()
+    };
+    name
+}
+
+fn readers_name() -> Name
+    ensures { result ≡ codes "readers" }
+{
+    let Ok(name) = read_name("readers") else {
+        unreachable!()
+    };
+    name
+}
+
+// Articles with one author and many readers, and people.
+fn blog(alloc: Global) -> Result<Schema, NoMemory> {
+    let mut relationships = Vec::new(alloc);
+    relationships.push(Relationship {
+        name: author_name(),
+        many: false,
+        target: 1,
+    })?;
+    relationships.push(Relationship {
+        name: readers_name(),
+        many: true,
+        target: 1,
+    })?;
+    let articles = Kind {
+        name: articles_name(),
+        client_ids: true,
+        attributes: List::from_vec(Vec::new(alloc)),
+        relationships: List::from_vec(relationships),
+    };
+    let people = Kind {
+        name: people_name(),
+        client_ids: false,
+        attributes: List::from_vec(Vec::new(alloc)),
+        relationships: List::from_vec(Vec::new(alloc)),
+    };
+    let mut kinds = Vec::new(alloc);
+    kinds.push(articles)?;
+    kinds.push(people)?;
+    Ok(Schema::from_kinds(List::from_vec(kinds)))
+}
+
+#[test]
+fn plans_requests_of_relationships(rt: HostRuntime) -> Result<(), Fail> {
+    let alloc = rt.alloc();
+    let schema = blog(alloc)?;
+    let planner = RequestTasks::new(alloc, &schema)?;
+    let one = "{\"data\":{\"type\":\"people\",\"id\":\"7\"}}";
+    let many = "{\"data\":[{\"type\":\"people\",\"id\":\"7\"}]}";
+    let readers = "/articles/1/relationships/readers";
+    let author = "/articles/1/relationships/author";
+    let rows: [(&str, &str, &[(&str, &str)], &str, &str); 13] = [
+        ("GET", "/articles/1/author", NO_FIELD, "", "fetch"),
+        ("GET", "/articles/1/readers", NO_FIELD, "", "501 not-built"),
+        (
+            "PATCH",
+            "/articles/1/author",
+            JSON_API,
+            one,
+            "405 method-not-allowed related",
+        ),
+        ("GET", author, NO_FIELD, "", "fetch"),
+        ("GET", readers, NO_FIELD, "", "fetch"),
+        (
+            "GET",
+            "/articles/1/relationships/readers?page[size]=1",
+            NO_FIELD,
+            "",
+            "501 not-built",
+        ),
+        ("POST", author, JSON_API, many, "405 method-not-allowed one"),
+        ("PATCH", author, JSON_API, one, "set links, empty"),
+        ("PATCH", author, JSON_API, many, "400 bad-document"),
+        ("POST", readers, JSON_API, many, "add links, empty"),
+        ("DELETE", readers, JSON_API, many, "drop links, empty"),
+        (
+            "DELETE",
+            readers,
+            NO_FIELD,
+            many,
+            "415 unsupported-media-type",
+        ),
+        (
+            "PUT",
+            readers,
+            NO_FIELD,
+            many,
+            "405 method-not-allowed many",
+        ),
     ];
     for (method, target, fields, body, want) in rows {
         let message = message(alloc, method, target, fields, body)?;
