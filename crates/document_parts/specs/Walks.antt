@@ -1,5 +1,5 @@
 -- The members of an object, as a walk over a map sees them.
-use Rattle.std.proofs.Common.{◌≡◌, ℕ, List, [], ◌∷◌, ◌++◌, map, Result, Ok, Err, Option, Some, None, ap, sym, ◌∙◌}
+use Rattle.std.proofs.Common.{◌≡◌, ℕ, List, [], ◌∷◌, ◌++◌, map, Result, Ok, Err, Option, Some, None, Bool, true, cond, filter, ap, sym, ◌∙◌}
 use Rattle.std.specs.Prelude.{String, string_bytes}
 use Rattle.std.specs.Borrow.{Bor}
 use Rattle.std.specs.BTreeMap.{BTreeMap}
@@ -42,3 +42,16 @@ module _ {A E : Type 0} (f : List ℕ × Data → Result A E) (all : List (List 
   -- no member is left
   pub step-end : (next : Option (Bor (String Global) × Bor Value)) → next ≡ None → TakesFirst deref_pair left next rest → all_ok (map f all) ≡ Ok xs
   step-end next is steps = rest-end f all xs (seen left) so_far (ap seen (rest_all deref_pair left rest next is steps))
+
+-- ---- a walk that reads each member that passes a test
+
+kept : (t : List ℕ × Data → Bool) (m : List ℕ × Data) (ms : List (List ℕ × Data)) → t m ≡ true → filter t (m ∷ ms) ≡ m ∷ filter t ms
+kept t m ms passes = ap (λ b. cond b (m ∷ filter t ms) (filter t ms)) passes
+
+-- a member that passes was read
+pub kept-more : {A E : Type 0} (t : List ℕ × Data → Bool) (f : List ℕ × Data → Result A E) (all : List (List ℕ × Data)) (xs : List A) (left rest : List (String Global × Value))
+    → all_ok (map f all) ≡ onto xs (all_ok (map f (filter t (seen left))))
+    → (next : Option (Bor (String Global) × Bor Value)) (m : Bor (String Global) × Bor Value) (x : A) (ys : List A) (text : List ℕ) → next ≡ Some m → TakesFirst deref_pair left next rest
+    → text ≡ string_bytes m.0.now → t (text, view m.1.now) ≡ true → f (text, view m.1.now) ≡ Ok x → ys ≡ xs ++ x ∷ [] → all_ok (map f all) ≡ onto ys (all_ok (map f (filter t (seen rest))))
+kept-more t f all xs left rest so_far next m x ys text is steps named passes good grown =
+    rw grown (rest-more f all xs (filter t (seen left)) so_far _ (filter t (seen rest)) x (ap (λ es. filter t (seen es)) (rest_more deref_pair left rest next m is steps) ∙ kept t _ (seen rest) (rw (sym named) passes)) (rw (sym named) good))

@@ -37,7 +37,7 @@ use Rattle.error_objects.specs.declared.codes.Code.TheVariants as code
 use Rattle.error_objects.specs.Refusals.{at_pointer}
 use Rattle.request_model.specs.Words.{some_if}
 use Rattle.request_model.specs.Results.{err_if}
-use Rattle.request_model.specs.Documents.{bad_document, object_at, text_member, keeps_rule, given_values, given_links, value_or_default, all_values, kind_named, resource_kind, client_id, is_lid, local_id, create_of, name_member, same_named, own_name, lid_in, target_of_update, update_of}
+use Rattle.request_model.specs.Documents.{bad_document, object_at, text_member, keeps_rule, given_values, given_links, value_or_default, all_values, kind_named, resource_kind, client_id, is_lid, local_id, create_of, name_member, same_named, own_name, lid_in, target_of_update, who_of, update_of}
 use Rattle.request_model.proofs.Inversions.{bind-Ok, then-Ok, map-Ok, err_if-Ok, negated, ok_or-Ok, all_some-zip}
 use Rattle.request_model.proofs.Zips.{position-found}
 use Rattle.request_model.proofs.LinkageFits.{rule-IsNamed}
@@ -220,13 +220,13 @@ pub update_of-fits : (schema : Schema) (endpoint : Option Who) (at : List ℕ) (
     → update_of schema endpoint at d ≡ Ok operation → FitsOperation schema operation × FitsForm reply_form.Updated (operation ∷ [])
 update_of-fits schema endpoint at d operation rules order known e =
     let a = bind-Ok (resource_kind schema (option_map (λ who. kind_of who.named) endpoint) at d) _ operation e in
-    let b = bind-Ok (own_name a.0 at (get (codes "id") d) (lid_in endpoint d)) _ operation a.2 in
-    let c = bind-Ok (target_of_update endpoint at b.0) _ operation b.2 in
+    let c = bind-Ok (who_of a.0 endpoint at d) _ operation a.2 in
+    let b = bind-Ok (own_name a.0 at (get (codes "id") d) (lid_in endpoint d)) _ c.0 c.1 in
     let f = bind-Ok (given_values schema a.0 at d) _ operation c.2 in
     let g = bind-Ok (given_links schema a.0 at d) _ operation f.2 in
     let same : Update c.0 f.0 g.0 ≡ operation = cc g.2 in
     let name = resource_kind-named schema (option_map (λ who. kind_of who.named) endpoint) at d a.0 a.1 in
-    let who = target-fits schema endpoint at a.0 name.0 b.0 c.0 known name.1 (own_name-kind a.0 at (get (codes "id") d) (lid_in endpoint d) b.0 b.1) c.1 in
+    let who = target-fits schema endpoint at a.0 name.0 b.0 c.0 known name.1 (own_name-kind a.0 at (get (codes "id") d) (lid_in endpoint d) b.0 b.1) b.2 in
     let values = subst (λ k. FitsValues schema k f.0) (sym who.1) (given_values-fit schema a.0 at d f.0 rules order f.1) in
     let links = subst (λ k. FitsLinks schema k g.0) (sym who.1) (given_links-fit schema a.0 at d g.0 rules order g.1) in
     subst (λ o. FitsOperation schema o × FitsForm reply_form.Updated (o ∷ [])) same ((who.0, values, links), tt)

@@ -43,7 +43,7 @@ use Rattle.request_model.specs.Values.{value_from}
 use Rattle.request_model.specs.Targets.{target_of_path, allow_of, need_of}
 use Rattle.request_model.specs.Negotiation.{content, acceptable}
 use Rattle.request_model.specs.Queries.{pairs_of, query_of, no_parameter, known_parameter, or_bad, with_parameter, has_name, primary_kind, with_pair, with_pairs, sort_forms, place_at, paths_of, field_set_of, in_brackets, sort_keys_of, page_size_of, no_query}
-use Rattle.request_model.specs.Documents.{bad_document, object_at, text_member, fields_at, named_in, keeps_rule, identifier, to_one, indexed, to_many, linkage, given_value, given_values, given_link, given_links, all_values, kind_named, resource_kind, client_id, is_lid, local_id, create_of, name_member, same_named, own_name, lid_in, target_of_update, update_of}
+use Rattle.request_model.specs.Documents.{bad_document, object_at, text_member, fields_at, named_in, keeps_rule, identifier, to_one, indexed, to_many, linkage, given_value, given_values, given_link, given_links, all_values, kind_named, resource_kind, client_id, is_lid, local_id, create_of, name_member, same_named, own_name, lid_in, target_of_update, who_of, update_of}
 use Rattle.request_model.specs.OperationLists.{op_of, op_at, optional_text, aim_of_ref, ref_aim, href_aim, aim_by, if_many, act_of, with_data, operation_by, operation_of, absent, list_pointer, operations_of}
 use Rattle.request_model.specs.Plans.{body_value, primary_data, by_path, data_pointer, update_task, change_of, judged, is_fetch, none_or_err, fetch_of, change_without_query, task_of, is_list}
 
@@ -200,13 +200,17 @@ module _ (in_list : Bool) where
   of_named None without = without
   of_named (Some who) without = tt
 
+  who_of-sourced : (kind : ℕ) (endpoint : Option Who) (at : List ℕ) (d : Data) → ListWithout endpoint → IfErr (who_of kind endpoint at d) Sourced
+  who_of-sourced kind endpoint at d without =
+      bind-err Sourced (own_name kind at (get (codes "id") d) (lid_in endpoint d)) _ (own_name-sourced kind at (get (codes "id") d) (lid_in endpoint d)) (λ name.
+      target_of_update-sourced endpoint at name without)
+
   update_of-sourced : (schema : Schema) (endpoint : Option Who) (at : List ℕ) (d : Data) → ListWithout endpoint → IfErr (update_of schema endpoint at d) Sourced
   update_of-sourced schema endpoint at d without =
       bind-err Sourced (resource_kind schema (option_map (λ who. kind_of who.named) endpoint) at d) _ (resource_kind-sourced schema (option_map (λ who. kind_of who.named) endpoint) at d (of_named endpoint without)) (λ kind.
-      bind-err Sourced (own_name kind at (get (codes "id") d) (lid_in endpoint d)) _ (own_name-sourced kind at (get (codes "id") d) (lid_in endpoint d)) (λ name.
-      bind-err Sourced (target_of_update endpoint at name) _ (target_of_update-sourced endpoint at name without) (λ who.
+      bind-err Sourced (who_of kind endpoint at d) _ (who_of-sourced kind endpoint at d without) (λ who.
       bind-err Sourced (given_values schema kind at d) _ (given_values-sourced schema kind at d) (λ values.
-      bind-err Sourced (given_links schema kind at d) _ (given_links-sourced schema kind at d) (λ links. tt)))))
+      bind-err Sourced (given_links schema kind at d) _ (given_links-sourced schema kind at d) (λ links. tt))))
 
 -- ---- lists of operations
 

@@ -226,12 +226,17 @@ abbrev pub target_of_update : Option Who → List ℕ → Named → Result Who R
 target_of_update (Some who) at name = if same_named who.named name then Ok who else Err (at_pointer code.IdMismatch (at // name_member name))
 target_of_update None at name = if keeps_rule name then Ok (record { named = name; place = stands.Data }) else Err (at_pointer code.NotFound (at // codes "id"))
 
+-- the target, which the data names as well
+abbrev pub who_of : ℕ → Option Who → List ℕ → Data → Result Who Refusal
+who_of kind endpoint at d = do
+  name ← own_name kind at (get (codes "id") d) (lid_in endpoint d)
+  target_of_update endpoint at name
+
 -- a changed resource, by the rules in their order
 abbrev pub update_of : Schema → Option Who → List ℕ → Data → Result Operation Refusal
 update_of schema endpoint at d = do
   kind ← resource_kind schema (option_map (λ who. kind_of who.named) endpoint) at d
-  name ← own_name kind at (get (codes "id") d) (lid_in endpoint d)
-  who ← target_of_update endpoint at name
+  who ← who_of kind endpoint at d
   values ← given_values schema kind at d
   links ← given_links schema kind at d
   Ok (Update who values links)

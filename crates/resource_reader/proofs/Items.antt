@@ -1,7 +1,8 @@
 -- The items of an array.
-use Rattle.std.proofs.Common.{◌≡◌, ℕ, List, map, drop, ap}
+use Rattle.std.proofs.Common.{◌≡◌, ℕ, List, map, drop, Some, ap, sym}
 use Rattle.std.specs.List.{enumerate_from}
-use Rattle.serde_json.specs.Data.{Data, array}
+use Rattle.serde_json.specs.Data.{Data}
+use Rattle.serde_json.specs.Find.{as_array}
 use Rattle.serde_json.specs.View.{view, items_of}
 use Rattle.serde_json.specs.declared.value.Value.{Value}
 use Rattle.resource_schema.specs.declared.schema.Schema.{Schema}
@@ -13,5 +14,5 @@ use Rattle.resource_reader.specs.Arrays.{many_of}
 abbrev pub placed : List Value → ℕ → List (ℕ × Data)
 placed values i = enumerate_from i (map view (drop i values))
 
-pub to_many-array : (schema : Schema) (kind : ℕ) (at : List ℕ) (ds : List Data) → to_many schema kind at (array (items_of ds)) ≡ many_of schema kind at ds
-to_many-array schema kind at ds = ap (many_of schema kind at) (items_list-items_of ds)
+pub to_many-items : (schema : Schema) (kind : ℕ) (at : List ℕ) (d : Data) (ds : List Data) → Some (items_of ds) ≡ as_array d → to_many schema kind at d ≡ many_of schema kind at ds
+to_many-items schema kind at d ds e = rw (sym e) (ap (many_of schema kind at) (items_list-items_of ds))

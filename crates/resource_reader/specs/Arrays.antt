@@ -1,15 +1,13 @@
 -- To-many linkages, by the items of their array.
-use Rattle.std.specs.Prelude.{◌≡◌, ℕ, ◌^◌, nat_le, List, map, length, Result, ap}
+use Rattle.std.specs.Prelude.{◌≡◌, ℕ, ◌^◌, nat_le, List, map, length, Result}
 use Rattle.std.specs.List.{enumerate_from}
-use Rattle.serde_json.specs.Data.{Data, array}
-use Rattle.serde_json.specs.View.{items_of}
+use Rattle.serde_json.specs.Data.{Data}
 use Rattle.resource_schema.specs.declared.schema.Schema.{Schema}
 use Rattle.task_forms.specs.declared.operations.Member.{Member}
 use Rattle.error_objects.specs.declared.refusals.Refusal.{Refusal}
 use Rattle.request_model.specs.Words.{all_ok}
 use Rattle.request_model.specs.Results.{◌>>◌, err_if}
-use Rattle.request_model.specs.Documents.{bad_document, indexed, to_many}
-use Rattle.request_model.specs.ListLaws.{items_list-items_of}
+use Rattle.request_model.specs.Documents.{bad_document, indexed}
 
 abbrev pub many_of : Schema → ℕ → List ℕ → List Data → Result (List Member) Refusal
 many_of schema kind at ds = do

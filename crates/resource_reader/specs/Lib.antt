@@ -1,3 +1,5 @@
 pub mod Reads
 pub mod Names
 pub mod Arrays
+pub mod Fields
+pub mod OwnIds

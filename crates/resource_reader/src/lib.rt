@@ -2,8 +2,15 @@
 //! Structure" and "Creating, Updating and Deleting Resources").
 #![tactic(auto)]
 
+mod creates;
+mod fields;
 mod identifiers;
 mod linkages;
 mod parts;
+mod reads;
 mod stops;
+mod updates;
+mod values;
 
+
+pub use reads::{read_create, read_members, read_update};

@@ -102,9 +102,9 @@ fn read_to_many(
 ) -> Result<List<Member>, Stop>
     ensures { Reads result (to_many schema.now kind at.now (view value.now)) }
 {
-    match value {
-        Value::Array(values) => read_array(alloc, schema, kind, at, values.as_slice()),
-        _ => Err(bad_document(alloc, at)),
+    match value.as_array() {
+        Some(values) => read_array(alloc, schema, kind, at, values),
+        None => Err(bad_document(alloc, at)),
     }
 }
 

@@ -1,7 +1,8 @@
-use Rattle.std.proofs.Common.{◌≡◌}
-use Rattle.serde_json.specs.View.{view}
-use Rattle.resource_reader.proofs.Items.{to_many-array}
+use Rattle.std.proofs.Common.{◌≡◌, ap, ◌∙◌, map, Some}
+use Rattle.serde_json.specs.View.{view, items_of}
+use Rattle.resource_reader.proofs.Items.{to_many-items}
 use Rattle.resource_reader.proofs.linkages.read_to_many.Goals as goal
 
-pub returns-in-Array : goal.returns-in-Array
-returns-in-Array c = ?
+pub returns-in-Some : goal.returns-in-Some
+returns-in-Some c =
+    rw (to_many-items c.args.schema.now c.args.kind c.args.at.now (view c.args.value.now) (map view c.deref.result.now) (ap (λ vs. Some (items_of (map view vs))) c.deref.ensures.value ∙ c.in-Some.ensures)) c.read_array.ensures

@@ -1,0 +1,163 @@
+ghost use Rattle.std.specs.Prelude.{◌≡◌, ◌≤◌, IfOk, length, map, option_copied, slice_get};
+ghost use Rattle.std.specs.List.{enumerate_from};
+ghost use Rattle.std.specs.Ordering.{nat_cmp};
+ghost use Rattle.std.specs.FinMap.Entries.{find};
+ghost use Rattle.serde_json.specs.View.{view};
+
+ghost use Rattle.request_model.specs.Words.{all_ok, all_some};
+ghost use Rattle.request_model.specs.Documents.{given_value, given_values, value_or_default, all_values};
+ghost use Rattle.document_parts.specs.Walks.{members_in};
+ghost use Rattle.resource_reader.specs.Reads.{Reads};
+ghost use Rattle.resource_reader.specs.Fields.{is_field_name, fields_in};
+
+use crate::stops::{Stop, refuse_in};
+use crate::parts::object_at;
+use document_parts::{member_pointer, read_value};
+use error_objects::Code;
+use ident_rules::{List, NoMemory};
+use json_forms::member;
+use resource_schema::{AttrValue, Attribute, Schema};
+use serde_json::{Map, Value};
+use std::alloc::Global;
+
+/// Whether a member is a field: its name does not begin with `@` (JSON:API 1.1, "@-Members").
+pub fn is_field_name(name: &str) -> bool
+    ensures { result ≡ is_field_name name.now }
+{
+    !name.starts_with('@')
+}
+
+/// The attribute at a place.
+fn nth_attribute(attributes: &[Attribute], place: u32) -> Option<&Attribute>
+    ensures { option_copied result ≡ slice_get attributes.now place }
+{
+    attributes.get(place as usize)
+}
+
+/// One attribute: known, and with a value of its form.
+fn read_given_value(
+    alloc: Global,
+    schema: &Schema,
+    kind: u32,
+    group: &str,
+    name: &str,
+    value: &Value,
+) -> Result<(u32, AttrValue), Stop>
+    ensures { Reads result (given_value schema.now kind group.now (name.now, view value.now)) }
+{
+    let Some(number) = schema.attribute_of(kind, name) else {
+        return Err(refuse_in(alloc, Code::UnknownField, group, name));
+    };
+    let Some(attribute) = nth_attribute(schema.attributes_of(kind), number) else {
+        return Err(refuse_in(alloc, Code::UnknownField, group, name));
+    };
+    match read_value(alloc, attribute.form, attribute.nullable, value)? {
+        Some(given) => Ok((number, given)),
+        None => Err(refuse_in(alloc, Code::BadValue, group, name)),
+    }
+}
+
+/// The attributes that an object gives, each in order.
+fn read_attributes(
+    alloc: Global,
+    schema: &Schema,
+    kind: u32,
+    group: &str,
+    members: &Map<String, Value>,
+) -> Result<List<(u32, AttrValue)>, Stop>
+    ensures { Reads result (all_ok (map (given_value schema.now kind group.now) (fields_in (members_in members.now)))) }
+{
+    let mut values = Vec::new(alloc);
+    for (name, value) in members {
+        let name = name.as_str();
+        if is_field_name(name) {
+            match read_given_value(alloc, schema, kind, group, name, value) {
+                Ok(given) => values.push(given)?,
+                Err(stop) => return Err(stop),
+            }
+        }
+    }
+    Ok(List::from_vec(values))
+}
+
+/// The attributes that are given, by number (JSON:API 1.1, "Attributes").
+pub fn read_given_values(
+    alloc: Global,
+    schema: &Schema,
+    kind: u32,
+    at: &str,
+    value: &Value,
+) -> Result<List<(u32, AttrValue)>, Stop>
+    ensures { Reads result (given_values schema.now kind at.now (view value.now)) }
+{
+    let group = member_pointer(alloc, at, "attributes")?;
+    match member(value, "attributes") {
+        None => Ok(List::from_vec(Vec::new(alloc))),
+        Some(given) => {
+            let members = object_at(alloc, group.as_str(), given)?;
+            read_attributes(alloc, schema, kind, group.as_str(), members)
+        }
+    }
+}
+
+/// The value that was given for an attribute.
+fn find_given(given: &[(u32, AttrValue)], number: u32) -> Option<&AttrValue>
+    ensures { option_copied result ≡ find nat_cmp number given.now }
+{
+    for (place, value) in given {
+        if number == *place {
+            return Some(value);
+        }
+    }
+    None
+}
+
+/// The value that is given, or else the default, or else null.
+fn value_or_default(
+    alloc: Global,
+    given: &[(u32, AttrValue)],
+    number: u32,
+    attribute: &Attribute,
+) -> Result<Option<AttrValue>, NoMemory>
+    ensures { IfOk result (λ o. o ≡ value_or_default given.now (number, attribute.now)) }
+{
+    if let Some(value) = find_given(given, number) {
+        return Ok(Some(value.copy(alloc)?));
+    }
+    match &attribute.default {
+        Some(default) => Ok(Some(default.copy(alloc)?)),
+        None if attribute.nullable => Ok(Some(AttrValue::Null)),
+        None => Ok(None),
+    }
+}
+
+/// A value for each attribute, where each has one.
+fn values_of(
+    alloc: Global,
+    attributes: &[Attribute],
+    given: &[(u32, AttrValue)],
+) -> Result<Option<List<AttrValue>>, NoMemory>
+    requires few { length attributes.now ≤ 64 }
+    ensures { IfOk result (λ o. o ≡ all_some (map (value_or_default given.now) (enumerate_from 0 attributes.now))) }
+{
+    let mut values = Vec::with_capacity(alloc, attributes.len())?;
+    for (place, attribute) in attributes.iter().enumerate() {
+        match value_or_default(alloc, given, place as u32, attribute)? {
+            Some(value) => values.push(value)?,
+            None => return Ok(None),
+        }
+    }
+    Ok(Some(List::from_vec(values)))
+}
+
+/// A value for each attribute of a type, where each has one.
+pub fn all_values(
+    alloc: Global,
+    schema: &Schema,
+    kind: u32,
+    given: &[(u32, AttrValue)],
+) -> Result<Option<List<AttrValue>>, NoMemory>
+    ensures { IfOk result (λ o. o ≡ all_values schema.now kind given.now) }
+{
+    values_of(alloc, schema.attributes_of(kind), given)
+}
