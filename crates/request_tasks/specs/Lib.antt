@@ -1,3 +1,2 @@
 pub mod BuiltPlans
 pub mod Stops
-pub mod Stub

@@ -12,15 +12,15 @@ ghost use Rattle.task_forms.specs.declared.operations.Member.{Member};
 ghost use Rattle.task_forms.specs.declared.operations.Operation.TheVariants.{Remove};
 ghost use Rattle.task_forms.specs.declared.tasks.ReplyForm.TheVariants.{Empty};
 ghost use Rattle.request_tasks.specs.Stops.{Gives};
-ghost use Rattle.request_tasks.specs.Stub.{IsReadVec};
+ghost use Rattle.resource_reader.specs.Reads.{IsReadVec};
 
-use crate::reader_stub::{read_create, read_members, read_update};
 use crate::replies::{refuse, refuse_document};
 use crate::stops::Stop;
 use error_objects::{Code, Read, Refusal};
 use http_messages::Message;
 use ident_rules::{Key, List, NoMemory};
 use json_forms::{member, parse};
+use resource_reader::{read_create, read_members, read_update};
 use resource_schema::{Schema, Target};
 use serde_json::Value;
 use std::alloc::Global;

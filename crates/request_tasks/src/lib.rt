@@ -6,7 +6,6 @@ mod changes;
 mod fetches;
 mod laws;
 mod planner;
-mod reader_stub;
 mod replies;
 mod stops;
 mod tasks;
