@@ -128,11 +128,28 @@ fn words_of(alloc: Global, plan: &Plan) -> Result<String, AllocError> {
     }
 }
 
+// What is planned for a message, in words.
+fn planned(
+    alloc: Global,
+    tasks: &RequestTasks,
+    request: (&str, &str),
+    fields: &[(&str, &str)],
+    body: &str,
+) -> Result<String, NoMemory> {
+    let (method, target) = request;
+    let message = message(alloc, method, target, fields, body)?;
+    let plan = tasks.plan(alloc, &message)?;
+    Ok(words_of(alloc, &plan)?)
+}
+
+fn tasks_of_notes(alloc: Global) -> Result<RequestTasks, NoMemory> {
+    RequestTasks::new(alloc, &Schema::notes(alloc)?)
+}
+
 #[test]
 fn plans_requests_of_notes(rt: HostRuntime) -> Result<(), Fail> {
     let alloc = rt.alloc();
-    let schema = Schema::notes(alloc)?;
-    let planner = RequestTasks::new(alloc, &schema)?;
+    let tasks = tasks_of_notes(alloc)?;
     let new = "{\"data\":{\"type\":\"notes\",\"attributes\":{\"text\":\"hello\"}}}";
     let first = "{\"data\":{\"type\":\"notes\",\"id\":\"1\",\"attributes\":{\"text\":\"hello\"}}}";
     let rows: [(&str, &str, &[(&str, &str)], &str, &str); 26] = [
@@ -212,9 +229,8 @@ fn plans_requests_of_notes(rt: HostRuntime) -> Result<(), Fail> {
         ("PATCH", "/notes/1", JSON_API, first, "update, updated"),
     ];
     for (method, target, fields, body, want) in rows {
-        let message = message(alloc, method, target, fields, body)?;
-        let plan = planner.plan(alloc, &message)?;
-        assert_eq!(rt; words_of(alloc, &plan)?.as_str(), want, "{method} {target}");
+        let answer = planned(alloc, &tasks, (method, target), fields, body)?;
+        assert_eq!(rt; answer.as_str(), want, "{method} {target}");
     }
     Ok(())
 }
@@ -286,11 +302,14 @@ fn blog(alloc: Global) -> Result<Schema, NoMemory> {
     Ok(Schema::from_kinds(List::from_vec(kinds)))
 }
 
+fn tasks_of_blog(alloc: Global) -> Result<RequestTasks, NoMemory> {
+    RequestTasks::new(alloc, &blog(alloc)?)
+}
+
 #[test]
 fn plans_requests_of_relationships(rt: HostRuntime) -> Result<(), Fail> {
     let alloc = rt.alloc();
-    let schema = blog(alloc)?;
-    let planner = RequestTasks::new(alloc, &schema)?;
+    let tasks = tasks_of_blog(alloc)?;
     let one = "{\"data\":{\"type\":\"people\",\"id\":\"7\"}}";
     let many = "{\"data\":[{\"type\":\"people\",\"id\":\"7\"}]}";
     let readers = "/articles/1/relationships/readers";
@@ -335,9 +354,8 @@ fn plans_requests_of_relationships(rt: HostRuntime) -> Result<(), Fail> {
         ),
     ];
     for (method, target, fields, body, want) in rows {
-        let message = message(alloc, method, target, fields, body)?;
-        let plan = planner.plan(alloc, &message)?;
-        assert_eq!(rt; words_of(alloc, &plan)?.as_str(), want, "{method} {target}");
+        let answer = planned(alloc, &tasks, (method, target), fields, body)?;
+        assert_eq!(rt; answer.as_str(), want, "{method} {target}");
     }
     Ok(())
 }
