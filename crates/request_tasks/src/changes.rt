@@ -1,18 +1,18 @@
-ghost use Rattle.std.specs.Prelude.{◌≡◌, IfOk, [], ℕ, List as Listed, codes, Result, Some, false};
+ghost use Rattle.std.specs.Prelude.{◌≡◌, [], IfOk, List as Listed, Result, Some, codes, false};
 ghost use Rattle.std.specs.Option.{ok_or};
 ghost use Rattle.serde_json.specs.Find.{get};
 ghost use Rattle.serde_json.specs.View.{view};
-ghost use Rattle.request_model.specs.Words.{result_map};
-ghost use Rattle.request_model.specs.Documents.{bad_document, create_of, update_of};
-ghost use Rattle.request_model.specs.Plans.{body_value, by_path, change, change_of, change_without_query, is_list, data_pointer, links_operation, update_task};
-ghost use Rattle.resource_schema.specs.declared.targets.Target.TheVariants as target;
 ghost use Rattle.error_objects.specs.declared.refusals.Refusal.{Refusal};
 ghost use Rattle.error_objects.specs.Refusals.{IsRead};
+ghost use Rattle.resource_schema.specs.declared.targets.Target.TheVariants as target;
 ghost use Rattle.task_forms.specs.declared.operations.Member.{Member};
 ghost use Rattle.task_forms.specs.declared.operations.Operation.TheVariants.{Remove};
 ghost use Rattle.task_forms.specs.declared.tasks.ReplyForm.TheVariants.{Empty};
-ghost use Rattle.request_tasks.specs.Stops.{Gives};
+ghost use Rattle.request_model.specs.Documents.{bad_document, create_of, update_of};
+ghost use Rattle.request_model.specs.Plans.{body_value, by_path, change, change_of, change_without_query, data_pointer, is_list, links_operation, update_task};
+ghost use Rattle.request_model.specs.Words.{result_map};
 ghost use Rattle.resource_reader.specs.Reads.{IsReadVec};
+ghost use Rattle.request_tasks.specs.Stops.{Gives};
 
 use crate::replies::{refuse, refuse_document};
 use crate::stops::Stop;

@@ -1,7 +1,7 @@
-ghost use Rattle.std.specs.Prelude.{◌≡◌, Ok, [], ℕ, List};
-ghost use Rattle.request_model.specs.Queries.{is_page, no_query};
-ghost use Rattle.request_model.specs.Plans.{fetch_of, is_fetch};
+ghost use Rattle.std.specs.Prelude.{◌≡◌, [], Ok};
 ghost use Rattle.resource_schema.specs.declared.schema.Schema.{Schema};
+ghost use Rattle.request_model.specs.Plans.{fetch_of, is_fetch};
+ghost use Rattle.request_model.specs.Queries.{is_page, no_query};
 
 use ident_rules::List;
 use resource_schema::{Schema, Target};

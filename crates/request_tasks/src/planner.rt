@@ -12,6 +12,9 @@ use std::marker::Model;
 use task_forms::{Plan, Planner};
 
 /// Plans the messages of a schema. Contracts see the schema, as the list of its types.
+///
+/// Not built yet are queries, lists of operations, and GET and HEAD of a collection or of what a relationship to many
+/// leads to: they are answered 501 (RFC 9110, section 15.6.2).
 #[derive(Drop)]
 pub struct RequestTasks {
     schema: Schema,
@@ -39,7 +42,7 @@ impl RequestTasks {
     }
 
     /// What a message asks for.
-    fn plan_by(&self, alloc: Global, message: &Message) -> Result<Plan, NoMemory>
+    fn planned_so_far(&self, alloc: Global, message: &Message) -> Result<Plan, NoMemory>
         ensures { IfOk result (λ p. p ≡ planned_so_far self.now message.now) }
     {
         match task_or_reply_so_far(alloc, &self.schema, message) {
@@ -51,7 +54,7 @@ impl RequestTasks {
 }
 
 /// Judges the target, the path, the method, the content, what is accepted, the form and the body, in this order, and
-/// answers the first refusal, or the task.
+/// answers the first refusal, or the task (RFC 9110, section 15.5; JSON:API 1.1, "Server Responsibilities").
 impl Planner for RequestTasks {
     ghost use Rattle.task_forms.specs.Fit.{IsFit};
     ghost use Rattle.request_tasks.specs.BuiltPlans.{IsBuiltTask, planned_so_far};
@@ -64,6 +67,6 @@ impl Planner for RequestTasks {
         let _rules = self.schema.kinds();
         built_task_is_fit();
         planned_task_is_built();
-        self.plan_by(alloc, message)
+        self.planned_so_far(alloc, message)
     }
 }

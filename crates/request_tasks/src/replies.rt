@@ -1,5 +1,4 @@
-ghost use Rattle.std.specs.Prelude.{◌≡◌, ⊤, Ok, Result, [], not};
-ghost use Rattle.error_objects.specs.declared.codes.Code.TheVariants as code;
+ghost use Rattle.std.specs.Prelude.{◌≡◌, [], Result};
 ghost use Rattle.error_objects.specs.declared.refusals.Refusal.{Refusal};
 ghost use Rattle.error_objects.specs.ErrorReply.{error_reply};
 ghost use Rattle.error_objects.specs.Refusals.{at_header, refusal};

@@ -1,11 +1,8 @@
-ghost use Rattle.std.specs.Prelude.{◌≡◌, false, true, [], ⊤};
-ghost use Rattle.request_model.specs.Words.{result_map};
-ghost use Rattle.request_model.specs.Plans.{change_without_query, fetch_of, is_fetch, is_list, judged};
-ghost use Rattle.std.specs.Prelude.{if◌then◌else◌, codes, not, Result};
-ghost use Rattle.error_objects.specs.declared.refusals.Refusal.{Refusal};
+ghost use Rattle.std.specs.Prelude.{◌≡◌, [], codes, false, if◌then◌else◌, not, true};
 ghost use Rattle.error_objects.specs.declared.codes.Code.TheVariants as code;
 ghost use Rattle.error_objects.specs.Refusals.{at_header};
-ghost use Rattle.request_model.specs.Negotiation.{content, acceptable};
+ghost use Rattle.request_model.specs.Negotiation.{acceptable, content};
+ghost use Rattle.request_model.specs.Plans.{change_without_query, fetch_of, is_fetch, is_list, judged};
 ghost use Rattle.request_model.specs.Results.{err_if};
 ghost use Rattle.request_model.specs.Targets.{allow_of, need_of};
 ghost use Rattle.request_tasks.specs.BuiltPlans.{is_built, task_or_reply_so_far, task_so_far};

@@ -132,11 +132,11 @@ fn words_of(alloc: Global, plan: &Plan) -> Result<String, AllocError> {
 fn planned(
     alloc: Global,
     tasks: &RequestTasks,
-    request: (&str, &str),
+    request: &str,
     fields: &[(&str, &str)],
     body: &str,
 ) -> Result<String, NoMemory> {
-    let (method, target) = request;
+    let (method, target) = request.split_once(' ').unwrap_or((request, ""));
     let message = message(alloc, method, target, fields, body)?;
     let plan = tasks.plan(alloc, &message)?;
     Ok(words_of(alloc, &plan)?)
@@ -152,85 +152,62 @@ fn plans_requests_of_notes(rt: HostRuntime) -> Result<(), Fail> {
     let tasks = tasks_of_notes(alloc)?;
     let new = "{\"data\":{\"type\":\"notes\",\"attributes\":{\"text\":\"hello\"}}}";
     let first = "{\"data\":{\"type\":\"notes\",\"id\":\"1\",\"attributes\":{\"text\":\"hello\"}}}";
-    let rows: [(&str, &str, &[(&str, &str)], &str, &str); 26] = [
-        ("BREW", "notes", ALL_WRONG, "{", "400 bad-target"),
-        ("BREW", "/nothing", ALL_WRONG, "{", "404 not-found"),
+    let rows: [(&str, &[(&str, &str)], &str, &str); 26] = [
+        ("BREW notes", ALL_WRONG, "{", "400 bad-target"),
+        ("BREW /nothing", ALL_WRONG, "{", "404 not-found"),
         (
-            "BREW",
-            "/notes?x=1",
+            "BREW /notes?x=1",
             ALL_WRONG,
             "{",
             "405 method-not-allowed collection",
         ),
         (
-            "PUT",
-            "/notes/1",
+            "PUT /notes/1",
             NO_FIELD,
             "",
             "405 method-not-allowed resource",
         ),
         (
-            "get",
-            "/notes/1",
+            "get /notes/1",
             NO_FIELD,
             "",
             "405 method-not-allowed resource",
         ),
         (
-            "GET",
-            "/operations",
+            "GET /operations",
             NO_FIELD,
             "",
             "405 method-not-allowed operations",
         ),
+        ("POST /notes", ALL_WRONG, "{", "415 unsupported-media-type"),
+        ("POST /notes", PLAIN, new, "415 unsupported-media-type"),
         (
-            "POST",
-            "/notes",
-            ALL_WRONG,
-            "{",
-            "415 unsupported-media-type",
-        ),
-        ("POST", "/notes", PLAIN, new, "415 unsupported-media-type"),
-        (
-            "POST",
-            "/operations",
+            "POST /operations",
             JSON_API,
             "{",
             "415 unsupported-media-type",
         ),
-        (
-            "POST",
-            "/notes?x=1",
-            UNACCEPTABLE,
-            "{",
-            "406 not-acceptable",
-        ),
-        ("GET", "/notes", UNACCEPTABLE, "", "406 not-acceptable"),
-        ("GET", "/notes", NO_FIELD, "", "501 not-built"),
-        ("HEAD", "/notes?x=1", NO_FIELD, "", "501 not-built"),
-        ("GET", "/notes/1?x=1", NO_FIELD, "", "501 not-built"),
-        ("DELETE", "/notes/1?x=1", NO_FIELD, "", "501 not-built"),
-        ("POST", "/notes?x=1", JSON_API, "{", "501 not-built"),
-        ("POST", "/operations", ATOMIC, "{", "501 not-built"),
-        ("GET", "/notes/1", NO_FIELD, "", "fetch"),
-        ("HEAD", "HTTP://h/notes/1?", PLAIN, "{", "fetch"),
-        ("DELETE", "/notes/1", NO_FIELD, "", "remove, empty"),
-        ("POST", "/notes", JSON_API, "{", "400 bad-json"),
-        ("PATCH", "/notes/1", JSON_API, "{}", "400 bad-document"),
-        (
-            "POST",
-            "/notes",
-            JSON_API,
-            first,
-            "403 client-id-unsupported",
-        ),
-        ("POST", "/notes", JSON_API, new, "create, created"),
-        ("PATCH", "/notes/2", JSON_API, first, "409 id-mismatch"),
-        ("PATCH", "/notes/1", JSON_API, first, "update, updated"),
+        ("POST /notes?x=1", UNACCEPTABLE, "{", "406 not-acceptable"),
+        ("GET /notes", UNACCEPTABLE, "", "406 not-acceptable"),
+        ("GET /notes", NO_FIELD, "", "501 not-built"),
+        ("HEAD /notes?x=1", NO_FIELD, "", "501 not-built"),
+        ("GET /notes/1?x=1", NO_FIELD, "", "501 not-built"),
+        ("DELETE /notes/1?x=1", NO_FIELD, "", "501 not-built"),
+        ("POST /notes?x=1", JSON_API, "{", "501 not-built"),
+        ("POST /operations", ATOMIC, "{", "501 not-built"),
+        ("GET /notes/1", NO_FIELD, "", "fetch"),
+        ("HEAD HTTP://h/notes/1?", PLAIN, "{", "fetch"),
+        ("DELETE /notes/1", NO_FIELD, "", "remove, empty"),
+        ("POST /notes", JSON_API, "{", "400 bad-json"),
+        ("PATCH /notes/1", JSON_API, "{}", "400 bad-document"),
+        ("POST /notes", JSON_API, first, "403 client-id-unsupported"),
+        ("POST /notes", JSON_API, new, "create, created"),
+        ("PATCH /notes/2", JSON_API, first, "409 id-mismatch"),
+        ("PATCH /notes/1", JSON_API, first, "update, updated"),
     ];
-    for (method, target, fields, body, want) in rows {
-        let answer = planned(alloc, &tasks, (method, target), fields, body)?;
-        assert_eq!(rt; answer.as_str(), want, "{method} {target}");
+    for (request, fields, body, want) in rows {
+        let answer = planned(alloc, &tasks, request, fields, body)?;
+        assert_eq!(rt; answer.as_str(), want, "{request}");
     }
     Ok(())
 }
@@ -312,50 +289,79 @@ fn plans_requests_of_relationships(rt: HostRuntime) -> Result<(), Fail> {
     let tasks = tasks_of_blog(alloc)?;
     let one = "{\"data\":{\"type\":\"people\",\"id\":\"7\"}}";
     let many = "{\"data\":[{\"type\":\"people\",\"id\":\"7\"}]}";
-    let readers = "/articles/1/relationships/readers";
-    let author = "/articles/1/relationships/author";
-    let rows: [(&str, &str, &[(&str, &str)], &str, &str); 13] = [
-        ("GET", "/articles/1/author", NO_FIELD, "", "fetch"),
-        ("GET", "/articles/1/readers", NO_FIELD, "", "501 not-built"),
+    let rows: [(&str, &[(&str, &str)], &str, &str); 13] = [
+        ("GET /articles/1/author", NO_FIELD, "", "fetch"),
+        ("GET /articles/1/readers", NO_FIELD, "", "501 not-built"),
         (
-            "PATCH",
-            "/articles/1/author",
+            "PATCH /articles/1/author",
             JSON_API,
             one,
             "405 method-not-allowed related",
         ),
-        ("GET", author, NO_FIELD, "", "fetch"),
-        ("GET", readers, NO_FIELD, "", "fetch"),
         (
-            "GET",
-            "/articles/1/relationships/readers?page[size]=1",
+            "GET /articles/1/relationships/author",
+            NO_FIELD,
+            "",
+            "fetch",
+        ),
+        (
+            "GET /articles/1/relationships/readers",
+            NO_FIELD,
+            "",
+            "fetch",
+        ),
+        (
+            "GET /articles/1/relationships/readers?page[size]=1",
             NO_FIELD,
             "",
             "501 not-built",
         ),
-        ("POST", author, JSON_API, many, "405 method-not-allowed one"),
-        ("PATCH", author, JSON_API, one, "set links, empty"),
-        ("PATCH", author, JSON_API, many, "400 bad-document"),
-        ("POST", readers, JSON_API, many, "add links, empty"),
-        ("DELETE", readers, JSON_API, many, "drop links, empty"),
         (
-            "DELETE",
-            readers,
+            "POST /articles/1/relationships/author",
+            JSON_API,
+            many,
+            "405 method-not-allowed one",
+        ),
+        (
+            "PATCH /articles/1/relationships/author",
+            JSON_API,
+            one,
+            "set links, empty",
+        ),
+        (
+            "PATCH /articles/1/relationships/author",
+            JSON_API,
+            many,
+            "400 bad-document",
+        ),
+        (
+            "POST /articles/1/relationships/readers",
+            JSON_API,
+            many,
+            "add links, empty",
+        ),
+        (
+            "DELETE /articles/1/relationships/readers",
+            JSON_API,
+            many,
+            "drop links, empty",
+        ),
+        (
+            "DELETE /articles/1/relationships/readers",
             NO_FIELD,
             many,
             "415 unsupported-media-type",
         ),
         (
-            "PUT",
-            readers,
+            "PUT /articles/1/relationships/readers",
             NO_FIELD,
             many,
             "405 method-not-allowed many",
         ),
     ];
-    for (method, target, fields, body, want) in rows {
-        let answer = planned(alloc, &tasks, (method, target), fields, body)?;
-        assert_eq!(rt; answer.as_str(), want, "{method} {target}");
+    for (request, fields, body, want) in rows {
+        let answer = planned(alloc, &tasks, request, fields, body)?;
+        assert_eq!(rt; answer.as_str(), want, "{request}");
     }
     Ok(())
 }
