@@ -9,8 +9,9 @@ mod linkages;
 mod parts;
 mod reads;
 mod stops;
+#[cfg(test)]
+mod tests;
 mod updates;
 mod values;
-
 
 pub use reads::{read_create, read_members, read_update};

@@ -3,15 +3,14 @@ ghost use Rattle.std.specs.List.{enumerate_from};
 ghost use Rattle.std.specs.Ordering.{nat_cmp};
 ghost use Rattle.std.specs.FinMap.Entries.{find};
 ghost use Rattle.serde_json.specs.View.{view};
-
 ghost use Rattle.request_model.specs.Words.{all_ok, all_some};
 ghost use Rattle.request_model.specs.Documents.{given_value, given_values, value_or_default, all_values};
 ghost use Rattle.document_parts.specs.Walks.{members_in};
 ghost use Rattle.resource_reader.specs.Reads.{Reads};
 ghost use Rattle.resource_reader.specs.Fields.{is_field_name, fields_in};
 
-use crate::stops::{Stop, refuse_in};
 use crate::parts::object_at;
+use crate::stops::{Stop, refuse_in};
 use document_parts::{member_pointer, read_value};
 use error_objects::Code;
 use ident_rules::{List, NoMemory};
