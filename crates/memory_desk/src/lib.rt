@@ -1,0 +1,7 @@
+//! A desk on a store of its own in memory: it answers the tasks of one connection, each in its order, and shares nothing.
+#![tactic(auto)]
+
+mod documents;
+mod fetches;
+mod replies;
+mod rows;
