@@ -5,3 +5,5 @@ pub mod Narrows
 pub mod Merges
 pub mod Ranks
 pub mod Walks
+pub mod Sides
+pub mod Splits

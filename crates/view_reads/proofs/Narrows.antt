@@ -53,12 +53,12 @@ less_then t x y z Less less is up = t.trans x y z less is
 less_then t x y z Equal less is up = sym (tied_right t x y z is) ∙ less
 less_then t x y z Greater less is up = cc up
 
-above_more : (low : Edge) (x y : List ℕ) → is_above low x ≡ true → id_cmp x y ≡ Less → is_above low y ≡ true
+pub above_more : (low : Edge) (x y : List ℕ) → is_above low x ≡ true → id_cmp x y ≡ Less → is_above low y ≡ true
 above_more edge.End x y h less = refl
 above_more (edge.Open low) x y h less = ap is_lt (id_cmp_total.trans low x y (is_less _ h) less)
 above_more (edge.Closed low) x y h less = ap (λ o. not (is_gt o)) (not_greater id_cmp_total low x y (id_cmp low x) refl h less)
 
-below_more : (high : Edge) (x y : List ℕ) → is_below high x ≡ true → id_cmp y x ≡ Less → is_below high y ≡ true
+pub below_more : (high : Edge) (x y : List ℕ) → is_below high x ≡ true → id_cmp y x ≡ Less → is_below high y ≡ true
 below_more edge.End x y h less = refl
 below_more (edge.Open high) x y h less = ap is_lt (id_cmp_total.trans y x high less (is_less _ h))
 below_more (edge.Closed high) x y h less = ap (λ o. not (is_gt o)) (less_then id_cmp_total y x high (id_cmp x high) less refl h)
@@ -68,7 +68,7 @@ below_more (edge.Closed high) x y h less = ap (λ o. not (is_gt o)) (less_then i
 same_number : (m n : ℕ) → (m == n) ≡ true → m ≡ n
 same_number m n e = elim (eqb_tells m n) [ inl h ↦ h.1 | inr h ↦ cc (e, h.0) ]
 
-tied : (m n : ℕ) → m ≡ n → nat_cmp m n ≡ Equal
+pub tied : (m n : ℕ) → m ≡ n → nat_cmp m n ≡ Equal
 tied m n e = ap (nat_cmp m) (sym e) ∙ tied_itself nat_cmp_total m
 
 row_less : (k j : Key) → k.kind ≡ j.kind → is_lt (cell_key_cmp (cell_key.Row k) (cell_key.Row j)) ≡ is_lt (id_cmp k.id j.id)
@@ -112,7 +112,7 @@ rows_down kind low high k j h false s =
 link_cmp_total : IsTotalOrder link_cmp
 link_cmp_total = then_total (on_total (λ l. l.0) key_cmp_total) (on_total (λ l. l.1) nat_cmp_total)
 
-behind_more : (after : Option (Key × ℕ)) (x y : Key × ℕ) → is_behind after x ≡ true → link_cmp x y ≡ Less → is_behind after y ≡ true
+pub behind_more : (after : Option (Key × ℕ)) (x y : Key × ℕ) → is_behind after x ≡ true → link_cmp x y ≡ Less → is_behind after y ≡ true
 behind_more None x y h less = refl
 behind_more (Some l) x y h less = ap is_lt (link_cmp_total.trans l x y (is_less _ h) less)
 

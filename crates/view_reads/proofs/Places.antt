@@ -21,7 +21,7 @@ use Rattle.view_reads.proofs.Puts.{not_below_above, absent_below, rest_sorted}
 abbrev pub entry_of : Written → CellKey × Option Cell
 entry_of w = (w.key, w.cell)
 
-below_at : (k : CellKey) (ws : List Written) (i : ℕ) (d : Written) → i < length ws → T (below_all cell_key_cmp k (entries_of ws)) → is_lt (cell_key_cmp k (get_or ws i d).key) ≡ true
+pub below_at : (k : CellKey) (ws : List Written) (i : ℕ) (d : Written) → i < length ws → T (below_all cell_key_cmp k (entries_of ws)) → is_lt (cell_key_cmp k (get_or ws i d).key) ≡ true
 below_at k [] i d lt h = absurd (omega arith)
 below_at k (w ∷ ws) zero d lt h = true_T _ (both_T _ _ h).0
 below_at k (w ∷ ws) (suc i) d lt h = below_at k ws i d (omega arith) (both_T _ _ h).1

@@ -5,3 +5,4 @@ pub mod Narrowing
 pub mod Places
 pub mod Recording
 pub mod RecordingLaws
+pub mod Sides

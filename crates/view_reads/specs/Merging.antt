@@ -14,9 +14,13 @@ use Rattle.view_reads.specs.Narrowing.{is_met}
 abbrev pub nothing : Cells
 nothing k = None
 
--- what a write puts into a span, if anything
+-- what a write puts, if anything
+abbrev pub put_of : Written → Option (CellKey × Cell)
+put_of w = option_map (λ c. (w.key, c)) w.cell
+
+-- what it puts into a span
 abbrev pub put_in : Written → Span → Option (CellKey × Cell)
-put_in w span = cond (in_span span w.key) (option_map (λ c. (w.key, c)) w.cell) None
+put_in w span = cond (in_span span w.key) (put_of w) None
 
 -- a write hides what stands at its key
 abbrev pub hidden : Option (Option Cell) → Option Cell → Option Cell

@@ -3,6 +3,7 @@ ghost use Rattle.std.specs.Prelude.{◌≡◌, ℕ, ◌<◌, length, slice_index
 ghost use Rattle.world_cells.specs.Reads.{is_above, is_below, link_cmp, in_span};
 ghost use Rattle.view_reads.specs.Bounds.{IsBoundedLink, IsBoundedKey, IsBoundedBacks, IsBacks};
 ghost use Rattle.view_reads.specs.Narrowing.{is_behind, is_met, narrowed};
+ghost use Rattle.view_reads.specs.Sides.{between_edges, side, is_passed};
 
 use ident_rules::{Id, Key};
 use std::cmp::Ordering;
@@ -64,6 +65,56 @@ pub(crate) fn in_span(span: &Span, key: &CellKey) -> bool
             },
         ) => *to == *target && is_behind(after, &(*from, *rel)),
         _ => false,
+    }
+}
+
+/// Before, in or behind, from whether a key is past the low edge, and before the high one.
+fn between_edges(past: bool, early: bool) -> Ordering
+    ensures { result ≡ between_edges past early }
+{
+    if !past {
+        Ordering::Less
+    } else if early {
+        Ordering::Equal
+    } else {
+        Ordering::Greater
+    }
+}
+
+/// On which side of a span a key stands: before it, in it or behind it.
+fn side(span: &Span, key: &CellKey) -> Ordering
+    ensures { result ≡ side span.now key.now }
+{
+    match (span, key) {
+        (Span::Rows { kind, low, high }, CellKey::Row(row)) => {
+            let within = between_edges(is_above(low, &row.id), is_below(high, &row.id));
+            row.kind.cmp(kind).then(within)
+        }
+        (Span::Rows { .. }, _) => Ordering::Greater,
+        (Span::Backs { .. }, CellKey::Row(_)) => Ordering::Less,
+        (
+            Span::Backs { to, after },
+            CellKey::Back {
+                to: target,
+                from,
+                rel,
+            },
+        ) => {
+            let within = between_edges(is_behind(after, &(*from, *rel)), true);
+            target.cmp(to).then(within)
+        }
+        (Span::Backs { .. }, CellKey::Counter(_)) => Ordering::Greater,
+    }
+}
+
+/// Whether a key stands before a span, or, where the span is to be passed too, not behind it.
+pub(crate) fn is_passed(whole: bool, span: &Span, key: &CellKey) -> bool
+    ensures { result ≡ is_passed whole span.now key.now }
+{
+    if whole {
+        side(span, key) != Ordering::Greater
+    } else {
+        side(span, key) == Ordering::Less
     }
 }
 

@@ -119,6 +119,10 @@ fn meets_first_and_last(rt: HostRuntime) -> Result<(), Fail> {
             for number in removed {
                 recorder.remove(place(back, *number))?;
             }
+            // outside of the span
+            recorder.put(place(!back, 5), Cell::Counter(3))?;
+            recorder.put(CellKey::Row(key(0, 9)), Cell::Counter(3))?;
+            recorder.put(CellKey::Counter(0), Cell::Counter(3))?;
             let span = places(back);
             assert!(rt; is_at(recorder.first_in(&span, &mut work)?, back, first.0, first.1));
             assert!(rt; is_at(recorder.last_in(&span, &mut work)?, back, last.0, last.1));

@@ -3,12 +3,13 @@ ghost use Rattle.std.specs.Option.{option_map};
 ghost use Rattle.std.specs.FinMap.Entries.{find};
 ghost use Rattle.world_cells.specs.CellOrder.{cell_key_cmp};
 ghost use Rattle.world_cells.specs.Reads.{entries_of, overlay, AreRisingKeys};
-ghost use Rattle.view_reads.specs.Merging.{nothing, put_in};
+ghost use Rattle.view_reads.specs.Merging.{nothing, put_of};
 ghost use Rattle.view_reads.specs.Narrowing.{IsMet};
 ghost use Rattle.view_reads.specs.Places.{AreSorted, Wrote, IsThere, IsBetween};
 ghost use Rattle.view_reads.specs.Recording.{pair_now};
+ghost use Rattle.view_reads.specs.Sides.{IsSplit};
 
-use crate::spans::in_span;
+use crate::spans::{in_span, is_passed};
 use ident_rules::{List, NoMemory};
 use std::alloc::Global;
 use std::cmp::Ordering;
@@ -89,18 +90,32 @@ impl Writes {
     }
 }
 
-/// What a write puts into a span, if anything.
-fn put_in<'a>(written: &'a Written, span: &Span) -> Option<(&'a CellKey, &'a Cell)>
-    ensures { option_map pair_now result ≡ put_in written.now span.now }
+/// What a write puts, if anything.
+fn put_of(written: &Written) -> Option<(&CellKey, &Cell)>
+    ensures { option_map pair_now result ≡ put_of written.now }
 {
-    if in_span(span, &written.key) {
-        match &written.cell {
-            Some(cell) => Some((&written.key, cell)),
-            None => None,
-        }
-    } else {
-        None
+    match &written.cell {
+        Some(cell) => Some((&written.key, cell)),
+        None => None,
     }
+}
+
+/// How many of the writes stand before a span, or, where the span is to be passed too, not behind it, by halves.
+fn passed(writes: &[Written], whole: bool, span: &Span) -> usize
+    requires { AreSorted writes.now }
+    ensures { IsSplit whole span.now writes.now result }
+{
+    let mut low = 0;
+    let mut high = writes.len();
+    while low < high {
+        let middle = low + (high - low) / 2;
+        if is_passed(whole, span, &writes[middle].key) {
+            low = middle + 1;
+        } else {
+            high = middle;
+        }
+    }
+    low
 }
 
 /// The first cell that is put into a span.
@@ -108,10 +123,16 @@ fn first_put<'a>(writes: &'a [Written], span: &Span) -> Option<(&'a CellKey, &'a
     requires { AreSorted writes.now }
     ensures { IsMet false (overlay nothing writes.now) span.now (option_map pair_now result) }
 {
-    for written in writes {
-        if let Some(put) = put_in(written, span) {
+    let mut at = passed(writes, false, span);
+    while at < writes.len() {
+        let written = &writes[at];
+        if !in_span(span, &written.key) {
+            return None;
+        }
+        if let Some(put) = put_of(written) {
             return Some(put);
         }
+        at += 1;
     }
     None
 }
@@ -121,10 +142,14 @@ fn last_put<'a>(writes: &'a [Written], span: &Span) -> Option<(&'a CellKey, &'a 
     requires { AreSorted writes.now }
     ensures { IsMet true (overlay nothing writes.now) span.now (option_map pair_now result) }
 {
-    let mut at = writes.len();
+    let mut at = passed(writes, true, span);
     while at > 0 {
         at -= 1;
-        if let Some(put) = put_in(&writes[at], span) {
+        let written = &writes[at];
+        if !in_span(span, &written.key) {
+            return None;
+        }
+        if let Some(put) = put_of(written) {
             return Some(put);
         }
     }
