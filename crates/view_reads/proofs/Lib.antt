@@ -7,3 +7,4 @@ pub mod Ranks
 pub mod Walks
 pub mod Sides
 pub mod Splits
+mod Overlays

@@ -7,7 +7,7 @@ use Rattle.world_cells.specs.declared.cells.Cell.{Cell}
 use Rattle.world_cells.specs.declared.spans.Span.{Span}
 use Rattle.world_cells.specs.declared.sets.Written.{Written}
 use Rattle.world_cells.specs.CellOrder.{cell_key_cmp}
-use Rattle.world_cells.specs.Reads.{Cells, entries_of, in_span}
+use Rattle.world_cells.specs.Reads.{Cells, entries_of, overlay, in_span}
 use Rattle.view_reads.specs.Narrowing.{is_met}
 
 -- no cell; `overlay nothing` is what writes alone put
@@ -47,3 +47,7 @@ IsKept from_top f writes span put (Some (k, c)) =
 abbrev pub unless_written : Option (Option Cell) → Option (CellKey × Cell) → CellKey × Cell → Option (CellKey × Cell)
 unless_written None last p = Some p
 unless_written (Some w) last p = last
+
+-- what is there is what stood there, under the writes
+abbrev pub IsOverlaid : Cells → List Written → Cells → Type 0
+IsOverlaid before writes after = (k : CellKey) → after k ≡ overlay before writes k

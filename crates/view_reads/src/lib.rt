@@ -5,6 +5,7 @@
 //! answer rests on, and keeps the writes in order. The contract of each call speaks of the view by its map alone.
 #![tactic(auto)]
 
+mod cell_map;
 mod merging;
 mod recorder;
 mod spans;
@@ -13,5 +14,6 @@ mod tests;
 mod views;
 mod writes;
 
+pub use cell_map::CellMap;
 pub use recorder::Recorder;
 pub use views::View;

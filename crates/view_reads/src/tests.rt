@@ -1,41 +1,9 @@
-use crate::writes::Writes;
-use crate::{Recorder, View};
-use ident_rules::{Id, Key, NoMemory};
+use crate::{CellMap, Recorder, View};
+use ident_rules::{Id, Key, List, NoMemory};
 use outer_ends::Work;
 use std::alloc::Global;
 use std::test::Fail;
-use world_cells::{Cell, CellKey, Edge, Span};
-
-/// A map of cells in a list.
-#[derive(Drop)]
-struct Shelf {
-    cells: Writes,
-}
-
-impl View for Shelf {
-    ghost use Rattle.world_cells.specs.Reads.{overlay};
-    ghost use Rattle.view_reads.specs.Merging.{nothing};
-
-    ghost cells = { λ s. overlay nothing s.cells };
-
-    fn get(&self, key: &CellKey, work: &mut Work) -> Option<&Cell> {
-        work.add();
-        match self.cells.at(key) {
-            Some(written) => written.cell.as_ref(),
-            None => None,
-        }
-    }
-
-    fn first_in(&self, span: &Span, work: &mut Work) -> Option<(&CellKey, &Cell)> {
-        work.add();
-        self.cells.met_put(false, span)
-    }
-
-    fn last_in(&self, span: &Span, work: &mut Work) -> Option<(&CellKey, &Cell)> {
-        work.add();
-        self.cells.met_put(true, span)
-    }
-}
+use world_cells::{Cell, CellKey, Edge, Span, WriteSet, Written};
 
 fn key(kind: u32, number: u64) -> Key {
     Key {
@@ -74,14 +42,27 @@ fn places(back: bool) -> Span {
 }
 
 /// The cells 2, 4 and 6, and cells outside of all spans.
-fn filled_shelf(alloc: Global, back: bool) -> Result<Shelf, NoMemory> {
-    let mut cells = Writes::new(alloc);
+fn filled_map(alloc: Global, back: bool) -> Result<CellMap, NoMemory> {
+    let mut cells = Vec::new(alloc);
     for number in [6, 2, 4] {
-        cells.write(place(back, number), Some(Cell::Counter(1)))?;
+        cells.push(Written {
+            key: place(back, number),
+            cell: Some(Cell::Counter(1)),
+        })?;
     }
-    cells.write(CellKey::Row(key(0, 1)), Some(Cell::Counter(1)))?;
-    cells.write(CellKey::Counter(1), Some(Cell::Counter(1)))?;
-    Ok(Shelf { cells })
+    cells.push(Written {
+        key: CellKey::Row(key(0, 1)),
+        cell: Some(Cell::Counter(1)),
+    })?;
+    cells.push(Written {
+        key: CellKey::Counter(1),
+        cell: Some(Cell::Counter(1)),
+    })?;
+    let mut map = CellMap::new(alloc);
+    map.apply(WriteSet {
+        cells: List::from_vec(cells),
+    })?;
+    Ok(map)
 }
 
 /// Whether a cell was found at the place with this number, or none where that is 0.
@@ -111,7 +92,7 @@ fn meets_first_and_last(rt: HostRuntime) -> Result<(), Fail> {
     ];
     for back in [false, true] {
         for (put, removed, first, last) in rows {
-            let mut recorder = Recorder::new(rt.alloc(), filled_shelf(rt.alloc(), back)?);
+            let mut recorder = Recorder::new(rt.alloc(), filled_map(rt.alloc(), back)?);
             let mut work = Work::new();
             for number in put {
                 recorder.put(place(back, *number), Cell::Counter(2))?;
@@ -146,7 +127,7 @@ fn meets_within_edges(rt: HostRuntime) -> Result<(), Fail> {
             0,
         ),
     ];
-    let mut recorder = Recorder::new(rt.alloc(), filled_shelf(rt.alloc(), false)?);
+    let mut recorder = Recorder::new(rt.alloc(), filled_map(rt.alloc(), false)?);
     let mut work = Work::new();
     for (low, high, first, last) in rows {
         let span = Span::Rows { kind: 1, low, high };
@@ -159,7 +140,7 @@ fn meets_within_edges(rt: HostRuntime) -> Result<(), Fail> {
 
 #[test]
 fn notes_what_it_reads(rt: HostRuntime) -> Result<(), Fail> {
-    let mut recorder = Recorder::new(rt.alloc(), filled_shelf(rt.alloc(), false)?);
+    let mut recorder = Recorder::new(rt.alloc(), filled_map(rt.alloc(), false)?);
     let mut work = Work::new();
     assert!(rt; recorder.get(&place(false, 4), &mut work)?.is_some());
     recorder.remove(place(false, 4))?;
@@ -185,7 +166,7 @@ fn notes_what_it_reads(rt: HostRuntime) -> Result<(), Fail> {
 
 #[test]
 fn keeps_writes_in_order(rt: HostRuntime) -> Result<(), Fail> {
-    let shelf = filled_shelf(rt.alloc(), false)?;
+    let shelf = filled_map(rt.alloc(), false)?;
     let mut recorder = Recorder::new(rt.alloc(), &shelf);
     for number in [5, 1, 10, 5] {
         recorder.put(place(false, number), Cell::Counter(number))?;
@@ -199,5 +180,35 @@ fn keeps_writes_in_order(rt: HostRuntime) -> Result<(), Fail> {
     assert!(rt; writes[1].key == place(false, 3) && writes[1].cell.is_none());
     assert!(rt; writes[2].key == place(false, 5) && writes[2].cell.is_some());
     assert!(rt; writes[3].key == place(false, 10));
+    Ok(())
+}
+
+#[test]
+fn applies_writes(rt: HostRuntime) -> Result<(), Fail> {
+    let alloc = rt.alloc();
+    let mut map = filled_map(alloc, false)?;
+    let mut work = Work::new();
+    let mut cells = Vec::new(alloc);
+    for (number, cell) in [
+        (2, None),
+        (3, Some(Cell::Counter(5))),
+        (3, None),
+        (4, Some(Cell::Counter(7))),
+    ] {
+        cells.push(Written {
+            key: place(false, number),
+            cell,
+        })?;
+    }
+    map.apply(WriteSet {
+        cells: List::from_vec(cells),
+    })?;
+    for (number, value) in [(2, 0), (3, 5), (4, 7), (6, 1)] {
+        let found = match map.get(&place(false, number), &mut work) {
+            Some(Cell::Counter(n)) => *n,
+            _ => 0,
+        };
+        assert_eq!(rt; found, value, "cell {number}");
+    }
     Ok(())
 }

@@ -1,9 +1,9 @@
-ghost use Rattle.std.specs.Prelude.{◌≡◌, true, false, [], IfOk, OnOk, OnErr, MatchResult, map, Some, None};
+ghost use Rattle.std.specs.Prelude.{◌≡◌, ◌<◌, ◌≤◌, ◌+◌, vec_len, vec_capacity, true, false, [], IfOk, OnOk, OnErr, MatchResult, map, Some, None};
 ghost use Rattle.std.specs.Option.{option_map};
 ghost use Rattle.std.specs.FinMap.Entries.{find};
 ghost use Rattle.world_cells.specs.CellOrder.{cell_key_cmp};
 ghost use Rattle.world_cells.specs.Reads.{entries_of, overlay, AreRisingKeys};
-ghost use Rattle.view_reads.specs.Merging.{nothing, put_of};
+ghost use Rattle.view_reads.specs.Merging.{nothing, put_of, IsOverlaid};
 ghost use Rattle.view_reads.specs.Narrowing.{IsMet};
 ghost use Rattle.view_reads.specs.Places.{AreSorted, Wrote, IsThere, IsBetween};
 ghost use Rattle.view_reads.specs.Recording.{pair_now};
@@ -71,6 +71,14 @@ impl Writes {
         ensures err { OnErr result (self.new ≡ self.old) }
     {
         write_cell(&mut self.items, key, cell)
+    }
+
+    /// Writes cells over those that are there, all of them or none. Of two with one key the first counts.
+    pub(crate) fn write_all(&mut self, writes: List<Written>) -> Result<(), NoMemory>
+        ensures ok { OnOk result (IsOverlaid (overlay nothing self.old) writes (overlay nothing self.new)) }
+        ensures err { OnErr result (self.new ≡ self.old) }
+    {
+        write_all(&mut self.items, writes)
     }
 
     /// Leaves no write.
@@ -190,4 +198,40 @@ fn write_cell(writes: &mut Vec<Written>, key: CellKey, cell: Option<Cell>) -> Re
             Ok(())
         }
     }
+}
+
+/// Writes a cell where there is room for one more.
+fn write_in_room(writes: &mut Vec<Written>, key: CellKey, cell: Option<Cell>)
+    requires sorted { AreSorted writes.old.items }
+    requires room { vec_len writes.old < vec_capacity writes.old }
+    ensures wrote { Wrote writes.old.items key cell writes.new.items }
+    ensures len { vec_len writes.new ≤ vec_len writes.old + 1 }
+    ensures capacity { vec_capacity writes.old ≤ vec_capacity writes.new }
+{
+    match place_of(writes, &key) {
+        Ok(at) => {
+            let written = &mut writes[at];
+            written.cell = cell;
+        }
+        Err(at) => {
+            let Ok(()) = writes.insert(at, Written { key, cell }) else {
+                unreachable!()
+            };
+        }
+    }
+}
+
+/// Writes cells from the last to the first, all of them or none.
+fn write_all(writes: &mut Vec<Written>, new: List<Written>) -> Result<(), NoMemory>
+    requires { AreSorted writes.old.items }
+    ensures sorted { AreSorted writes.new.items }
+    ensures ok { OnOk result (IsOverlaid (overlay nothing writes.old.items) new (overlay nothing writes.new.items)) }
+    ensures err { OnErr result (writes.new.items ≡ writes.old.items) }
+{
+    writes.reserve(new.as_slice().len())?;
+    let mut left = new.into_vec();
+    while let Some(written) = left.pop() {
+        write_in_room(writes, written.key, written.cell);
+    }
+    Ok(())
 }
