@@ -1,5 +1,5 @@
 -- What writes at ways back leave at each cell key.
-use Rattle.std.proofs.Common.{◌≡◌, ℕ, ◌+◌, ◌<◌, List, [], ◌∷◌, Bool, true, false, length, take, get_or, nat_eq, refl, sym, ap, ◌∙◌, Option, Some, None, Result, Ok, Err, OnOk}
+use Rattle.std.proofs.Common.{◌≡◌, ℕ, ◌+◌, ◌<◌, List, [], ◌∷◌, Bool, true, false, length, take, get_or, nat_eq, refl, sym, ap, subst, ◌∙◌, Option, Some, None}
 use Rattle.std.specs.Prelude.{cond, not, ◌&&◌, ◌||◌, map}
 use Rattle.std.specs.List.{list_any}
 use Rattle.std.specs.declared.cmp.Ordering.{Ordering}
@@ -57,7 +57,7 @@ same_test false true f g = g refl
 same_test false false f g = refl
 
 turned_round : (x y : List ℕ) → pointwise nat_eq x y ≡ pointwise nat_eq y x
-turned_round x y = same_test _ _ (nat_list_eq_equiv.sym x y) (nat_list_eq_equiv.sym y x)
+turned_round x y = same_test _ _ (λ e. sym (nat_list_eq_equiv.symm x y) ∙ e) (λ e. nat_list_eq_equiv.symm x y ∙ e)
 
 -- the way back from an id is one of those from the kept ids exactly where the id is kept
 kept_test : (kind : ℕ) (from : Key) (rel : ℕ) (x : List ℕ) (kept : List (List ℕ))
@@ -86,7 +86,7 @@ pass_more false true false c b h = cc (h refl)
 -- whether a key that ties with the way back from an id is one of those from the kept ids
 kept_there : (kind : ℕ) (from : Key) (rel : ℕ) (x : List ℕ) (kept : List (List ℕ)) (b : Bool) → list_any (λ y. pointwise nat_eq y x) kept ≡ b
     → (k : CellKey) → same_cell_key k (back_from kind from rel x) ≡ true → is_back_of kind from rel kept k ≡ b
-kept_there kind from rel x kept b is k same = ap (is_back_of kind from rel kept) (cell_key_is k _ same) ∙ kept_test kind from rel x kept ∙ is
+kept_there kind from rel x kept b is k same = ap (is_back_of kind from rel kept) (cell_key_is k (back_from kind from rel x) same) ∙ kept_test kind from rel x kept ∙ is
 
 one_more : (kind : ℕ) (from : Key) (rel : ℕ) (ids : List (List ℕ)) (i : ℕ) (x : List ℕ) → i < length ids → x ≡ get_or ids i x → (k : CellKey)
     → (is_back_of kind from rel (take i ids) k || same_cell_key k (back_from kind from rel x)) ≡ is_back_of kind from rel (take (i + 1) ids) k
@@ -101,9 +101,10 @@ wrote_none kind from rel kept c start f k = refl
 -- an id that is not kept, whose way back is written
 pub wrote_more : (kind : ℕ) (from : Key) (rel : ℕ) (ids kept : List (List ℕ)) (c : Option Cell) (start old new : List Written) (i : ℕ) (x : List ℕ)
     → i < length ids → x ≡ get_or ids i x → list_any (λ y. pointwise nat_eq y x) kept ≡ false
-    → Wrote old (back_from kind from rel x) c new → WritesBacks kind from rel (take i ids) kept c start old → WritesBacks kind from rel (take (i + 1) ids) kept c start new
-wrote_more kind from rel ids kept c start old new i x below at lost wrote before f k =
-    overlay-put f old new (back_from kind from rel x) c wrote k
+    → (key : CellKey) → key ≡ back_from kind from rel x → Wrote old key c new
+    → WritesBacks kind from rel (take i ids) kept c start old → WritesBacks kind from rel (take (i + 1) ids) kept c start new
+wrote_more kind from rel ids kept c start old new i x below at lost key is wrote before f k =
+    overlay-put f old new (back_from kind from rel x) c (subst (λ (key : CellKey). Wrote old key c new) is wrote) k
     ∙ ap (cond (same_cell_key k (back_from kind from rel x)) c) (before f k)
     ∙ put_more (is_back_of kind from rel (take i ids) k) (same_cell_key k (back_from kind from rel x)) (is_back_of kind from rel kept k) c (overlay f start k) (kept_there kind from rel x kept false lost k)
     ∙ ap (λ b. cond (b && not (is_back_of kind from rel kept k)) c (overlay f start k)) (one_more kind from rel ids i x below at k)
@@ -124,9 +125,3 @@ pub turned_backs : (kind : ℕ) (from : Key) (rel : ℕ) (old new : List (List �
     → WritesBacks kind from rel old new None before mid → WritesBacks kind from rel new old (Some cell.Back) mid after → TurnsBacks kind from rel old new before after
 turned_backs kind from rel old new before mid after removed put f k =
     put f k ∙ ap (cond (is_back_of kind from rel new k && not (is_back_of kind from rel old k)) (Some cell.Back)) (removed f k)
-
--- ---- what follows on success
-
-pub on_ok : {T E P Q : Type 0} (r : Result T E) → (P → Q) → OnOk r P → OnOk r Q
-on_ok (Ok x) f p = f p
-on_ok (Err e) f p = p

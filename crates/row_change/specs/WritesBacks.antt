@@ -1,11 +1,12 @@
 -- What the writes of one row leave at the ways back to it.
-use Rattle.std.specs.Prelude.{◌≡◌, ℕ, Bool, nat_lt, not, ◌&&◌, cond, List, map, get_or, Some, None, Option}
+use Rattle.std.specs.Prelude.{◌≡◌, ℕ, Bool, nat_lt, not, ◌&&◌, cond, List, [], map, get_or, Some, None, Option}
 use Rattle.std.specs.List.{list_any}
 use Rattle.ident_rules.specs.declared.key.Key.{Key}
 use Rattle.ident_rules.specs.Key.{same_key}
 use Rattle.resource_schema.specs.declared.schema.Schema.{Schema}
 use Rattle.resource_schema.specs.Kinds.{target_of}
 use Rattle.world_cells.specs.declared.rows.Link.{Link}
+use Rattle.world_cells.specs.declared.rows.Row.{Row}
 use Rattle.world_cells.specs.declared.keys.CellKey.{CellKey}
 use Rattle.world_cells.specs.declared.keys.CellKey.TheVariants as cell_key
 use Rattle.world_cells.specs.declared.cells.Cell.{Cell}
@@ -60,3 +61,10 @@ rewritten schema key old new n (cell_key.Counter m) c = c
 abbrev pub RewritesLinks : Schema → Key → List Link → List Link → ℕ → List Written → List Written → Type 0
 RewritesLinks schema key old new n before after =
     (f : CellKey → Option Cell) (k : CellKey) → overlay f after k ≡ rewritten schema key old new n k (overlay f before k)
+
+-- ---- rows
+
+-- the links of a row that may be there
+abbrev pub links_of : Option Row → List Link
+links_of None = []
+links_of (Some row) = row.links

@@ -5,7 +5,7 @@ ghost use Rattle.world_cells.specs.declared.cells.Cell.TheVariants as cell;
 ghost use Rattle.world_cells.specs.World.{row_at};
 ghost use Rattle.store_model.specs.Change.{with_row, without_row, with_next};
 ghost use Rattle.row_change.specs.Steps.{LeavesReads, LeadsOn};
-ghost use Rattle.row_change.specs.WritesBacks.{WritesBacks, TurnsBacks, RewritesLinks, ids_at, back_from};
+ghost use Rattle.row_change.specs.WritesBacks.{WritesBacks, TurnsBacks, RewritesLinks, ids_at, back_from, links_of};
 
 use ident_rules::{Id, Key, NoMemory};
 use resource_schema::Schema;
@@ -24,7 +24,9 @@ pub fn put_row<V: View>(
     ensures leaves { LeavesReads recorder.old recorder.new }
     ensures leads { OnOk result (LeadsOn schema.now (λ now. (row_at now new.key ≡ option_copied old.entry) × (length new.links ≤ length (relationships_of schema.now new.key.kind))) (λ now. with_row now new) recorder.old.writes recorder.new.writes) }
 {
-    Err(NoMemory)
+    let key = new.key;
+    rewrite_links(schema, &key, links_of(old), new.links.as_slice(), recorder)?;
+    recorder.put(CellKey::Row(key), Cell::Row(new))
 }
 
 /// Removes a row, and the ways back to it from what it links to.
@@ -36,7 +38,8 @@ pub fn remove_row<V: View>(
     ensures leaves { LeavesReads recorder.old recorder.new }
     ensures leads { OnOk result (LeadsOn schema.now (λ now. row_at now old.now.key ≡ Some old.now) (λ now. without_row now old.now.key) recorder.old.writes recorder.new.writes) }
 {
-    Err(NoMemory)
+    rewrite_links(schema, &old.key, old.links.as_slice(), &[], recorder)?;
+    recorder.remove(CellKey::Row(old.key))
 }
 
 /// Writes the next id of a type.
@@ -49,6 +52,16 @@ pub fn put_next<V: View>(
     ensures leads { OnOk result ((schema : Types) → LeadsOn schema (λ now. ⊤) (λ now. with_next now kind number) recorder.old.writes recorder.new.writes) }
 {
     recorder.put(CellKey::Counter(kind), Cell::Counter(number))
+}
+
+/// The links of a row that may be there.
+fn links_of(row: Option<&Row>) -> &[Link]
+    ensures { result.now ≡ links_of (option_copied row.entry) }
+{
+    match row {
+        Some(row) => row.links.as_slice(),
+        None => &[],
+    }
 }
 
 /// The ids of the link of that number; none where there is no such link.
