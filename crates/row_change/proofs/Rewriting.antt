@@ -104,8 +104,8 @@ gone_row true row = refl
 gone_row false row = refl
 
 gone_back : (s is : Bool) (c : Option Cell) → is ≡ false → cond s (cond is (Some cell.Back) None) c ≡ cond (not s) c None
-gone_back true is c no_link = ap (λ b. cond b (Some cell.Back) None) no_link
-gone_back false is c no_link = refl
+gone_back true is c none = ap (λ b. cond b (Some cell.Back) None) none
+gone_back false is c none = refl
 
 turned_key : (x y : Key) → same_key x y ≡ same_key y x
 turned_key x y = (eq_by_cmp_equiv key_cmp_total).symm x y
