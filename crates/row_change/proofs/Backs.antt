@@ -1,6 +1,6 @@
 -- What writes at ways back leave at each cell key.
 use Rattle.std.proofs.Common.{◌≡◌, ℕ, ◌+◌, ◌<◌, List, [], ◌∷◌, Bool, true, false, length, take, get_or, nat_eq, refl, sym, ap, subst, ◌∙◌, Option, Some, None}
-use Rattle.std.specs.Prelude.{cond, not, ◌&&◌, ◌||◌, map}
+use Rattle.std.specs.Prelude.{cond, not, ◌&&◌, ◌||◌}
 use Rattle.std.specs.List.{list_any}
 use Rattle.std.specs.declared.cmp.Ordering.{Ordering}
 use Rattle.std.specs.declared.cmp.Ordering.TheVariants.{Less, Equal, Greater}
@@ -9,10 +9,9 @@ use Rattle.std.specs.Cmp.{tied_itself, nat_cmp_total}
 use Rattle.std.specs.Cmp.Lexicographic.{pointwise, nat_list_eq_equiv}
 use Rattle.std.proofs.lemmas.List.Folds.{list_any_more}
 use Rattle.ident_rules.specs.declared.key.Key.{Key}
-use Rattle.ident_rules.specs.IdOrder.{id_cmp, id_cmp_total, id_cmp_ties}
-use Rattle.ident_rules.specs.Key.{key_cmp, key_cmp_total, same_key}
+use Rattle.ident_rules.specs.IdOrder.{id_cmp, id_cmp_ties}
+use Rattle.ident_rules.specs.Key.{key_cmp, key_cmp_total}
 use Rattle.world_cells.specs.declared.keys.CellKey.{CellKey}
-use Rattle.world_cells.specs.declared.keys.CellKey.TheVariants as cell_key
 use Rattle.world_cells.specs.declared.cells.Cell.{Cell}
 use Rattle.world_cells.specs.declared.cells.Cell.TheVariants as cell
 use Rattle.world_cells.specs.declared.sets.Written.{Written}
@@ -21,7 +20,7 @@ use Rattle.world_cells.specs.CellLaws.{overlay-put}
 use Rattle.world_cells.specs.Reads.{overlay}
 use Rattle.store_model.specs.Valid.{same_id}
 use Rattle.view_reads.specs.Places.{Wrote}
-use Rattle.row_change.specs.WritesBacks.{back_from, is_back_of, WritesBacks, turned, TurnsBacks}
+use Rattle.row_change.specs.WritesBacks.{back_from, is_back_of, WritesBacks, TurnsBacks}
 
 -- ---- keys that tie
 

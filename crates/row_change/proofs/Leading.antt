@@ -1,24 +1,23 @@
 -- What the changed links of a row leave at each cell key, and the world that the writes lead to then.
-use Rattle.std.proofs.Common.{◌≡◌, ℕ, ◌+◌, ◌<◌, ◌≤◌, List, [], ◌∷◌, Bool, true, false, length, get_or, nat_lt, refl, sym, ap, subst, ◌∙◌, Option, Some, None, arith}
-use Rattle.std.specs.Prelude.{cond, not, ◌&&◌, ◌||◌, ◌==◌, map, option_map}
+use Rattle.std.proofs.Common.{◌≡◌, ℕ, ◌+◌, List, [], ◌∷◌, Bool, true, false, nat_lt, refl, sym, ap, subst, ◌∙◌, Option, arith}
+use Rattle.std.specs.Prelude.{cond, ◌&&◌, ◌||◌, ◌==◌, map}
 use Rattle.std.specs.List.{list_any}
 use Rattle.std.specs.Ordering.{is_eq, ordering_then, nat_cmp, eq_by_cmp}
-use Rattle.std.specs.Cmp.{tied_itself, nat_cmp_total, unsigned_tied}
+use Rattle.std.specs.Cmp.{unsigned_tied}
 use Rattle.std.proofs.lemmas.Bool.{le-ltb}
 use Rattle.std.proofs.lemmas.Bool.Decides.{nat_tests}
 use Rattle.std.specs.FinMap.{nat_cmp-IsAntisymmetric}
 use Rattle.ident_rules.specs.declared.key.Key.{Key}
-use Rattle.ident_rules.specs.Key.{key_cmp, same_key, key_cmp-IsAntisymmetric}
+use Rattle.ident_rules.specs.Key.{key_cmp, same_key}
 use Rattle.resource_schema.specs.declared.schema.Schema.{Schema}
-use Rattle.resource_schema.specs.Kinds.{relationships_of, target_of}
+use Rattle.resource_schema.specs.Kinds.{target_of}
 use Rattle.world_cells.specs.declared.rows.Link.{Link}
 use Rattle.world_cells.specs.declared.keys.CellKey.{CellKey}
 use Rattle.world_cells.specs.declared.keys.CellKey.TheVariants as cell_key
 use Rattle.world_cells.specs.declared.cells.Cell.{Cell}
-use Rattle.world_cells.specs.declared.cells.Cell.TheVariants as cell
 use Rattle.world_cells.specs.declared.sets.Written.{Written}
 use Rattle.world_cells.specs.Reads.{overlay}
-use Rattle.row_change.specs.WritesBacks.{back_from, is_back_of, turned, TurnsBacks, ids_at, leads_to, rewritten, RewritesLinks}
+use Rattle.row_change.specs.WritesBacks.{is_back_of, turned, TurnsBacks, ids_at, leads_to, rewritten, RewritesLinks}
 use Rattle.row_change.proofs.Backs.{is_equal, same_then}
 
 -- ---- whether a cell key is a way back
@@ -84,15 +83,15 @@ step_at schema key old new i (cell_key.Row q) c = rw (no_back_row (target_of sch
 step_at schema key old new i (cell_key.Counter m) c = rw (no_back_counter (target_of schema key.kind i) key i (ids_at old i) m, no_back_counter (target_of schema key.kind i) key i (ids_at new i) m) refl
 step_at schema key old new i (cell_key.Back to from r) c =
     ap (λ b. turned b (is_back_of (target_of schema key.kind i) key i (ids_at new i) (cell_key.Back to from r)) (rewritten schema key old new i (cell_key.Back to from r) c))
-      (back_test (target_of schema key.kind i) key i (ids_at old i) to from r)
+    (back_test (target_of schema key.kind i) key i (ids_at old i) to from r)
     ∙ ap (λ b. turned ((same_key from key && eq_by_cmp nat_cmp r i) && leads_to schema key.kind old i to) b (rewritten schema key old new i (cell_key.Back to from r) c))
-      (back_test (target_of schema key.kind i) key i (ids_at new i) to from r)
+    (back_test (target_of schema key.kind i) key i (ids_at new i) to from r)
     ∙ turn_step (same_key from key) (eq_by_cmp nat_cmp r i) (nat_lt r i) (nat_lt r (i + 1))
-      (leads_to schema key.kind old i to) (leads_to schema key.kind new i to) (leads_to schema key.kind old r to) (leads_to schema key.kind new r to) c
-      (λ e. ap (λ n. leads_to schema key.kind old n to) (sym (number_is r i e)))
-      (λ e. ap (λ n. leads_to schema key.kind new n to) (sym (number_is r i e)))
-      (λ e. ap (λ n. nat_lt n i) (number_is r i e) ∙ lt_itself i)
-      (lt_more r i)
+    (leads_to schema key.kind old i to) (leads_to schema key.kind new i to) (leads_to schema key.kind old r to) (leads_to schema key.kind new r to) c
+    (λ e. ap (λ n. leads_to schema key.kind old n to) (sym (number_is r i e)))
+    (λ e. ap (λ n. leads_to schema key.kind new n to) (sym (number_is r i e)))
+    (λ e. ap (λ n. nat_lt n i) (number_is r i e) ∙ lt_itself i)
+    (lt_more r i)
 
 links_start : (schema : Schema) (key : Key) (old new : List Link) (k : CellKey) (c : Option Cell) → c ≡ rewritten schema key old new 0 k c
 links_start schema key old new (cell_key.Row q) c = refl

@@ -19,7 +19,7 @@ use Rattle.world_cells.specs.declared.cells.Cell.TheVariants as cell
 use Rattle.world_cells.specs.declared.sets.Written.{Written}
 use Rattle.world_cells.specs.CellOrder.{same_cell_key}
 use Rattle.world_cells.specs.CellLaws.{overlay-put, map_cond, same_row_cell}
-use Rattle.world_cells.specs.Reads.{overlay, Leads}
+use Rattle.world_cells.specs.Reads.{Leads}
 use Rattle.world_cells.specs.World.{World, row_at, cell_at, ids_of, no_link}
 use Rattle.store_model.specs.Valid.{IsValid, IsLinkOf}
 use Rattle.store_model.specs.Change.{with_row, without_row}
@@ -69,7 +69,7 @@ back_cell schema now key old new valid at few to from r =
     let short = few_links schema now key old valid at in
     turned_at (same_key from key) (nat_lt r (length (relationships_of schema key.kind))) (leads_to schema key.kind (links_of old) r to) (leads_to schema key.kind new r to) (cell_at schema now (cell_key.Back to from r))
     (λ e. ap (λ q. leads_by schema (row_at now q) r to) (key_is from key e) ∙ ap (λ o. leads_by schema o r to) at
-      ∙ by_links schema old key.kind (λ row there. ap (λ q. q.kind) (valid.rows key row (at ∙ there)).own_key) r to)
+    ∙ by_links schema old key.kind (λ row there. ap (λ q. q.kind) (valid.rows key row (at ∙ there)).own_key) r to)
     (λ e. let behind = ltb-false r (length (relationships_of schema key.kind)) e in past schema key.kind (links_of old) r to (omega (arith, behind, short)))
     (λ e. let behind = ltb-false r (length (relationships_of schema key.kind)) e in past schema key.kind new r to (omega (arith, behind, few)))
 
@@ -94,7 +94,7 @@ pub put_leads : (schema : Schema) (w now : World) (old : Option Row) (new : Row)
 put_leads schema w now old new before mid after valid at few links wrote leads k =
     overlay-put (cell_at schema w) mid after (cell_key.Row new.key) (Some (cell.Row new)) wrote k
     ∙ ap (cond (same_cell_key k (cell_key.Row new.key)) (Some (cell.Row new))) (links (cell_at schema w) k
-      ∙ ap (rewritten schema new.key (links_of old) new.links (length (relationships_of schema new.key.kind)) k) (leads k))
+    ∙ ap (rewritten schema new.key (links_of old) new.links (length (relationships_of schema new.key.kind)) k) (leads k))
     ∙ put_cell schema now old new valid at few k
 
 -- ---- a row that is removed
@@ -131,5 +131,5 @@ pub remove_leads : (schema : Schema) (w now : World) (old : Row) (before mid aft
 remove_leads schema w now old before mid after valid at links wrote leads k =
     overlay-put (cell_at schema w) mid after (cell_key.Row old.key) None wrote k
     ∙ ap (cond (same_cell_key k (cell_key.Row old.key)) None) (links (cell_at schema w) k
-      ∙ ap (rewritten schema old.key old.links [] (length (relationships_of schema old.key.kind)) k) (leads k))
+    ∙ ap (rewritten schema old.key old.links [] (length (relationships_of schema old.key.kind)) k) (leads k))
     ∙ removed_cell schema now old valid at k

@@ -1,4 +1,4 @@
-use Rattle.std.proofs.Common.{take, Some, None}
+use Rattle.std.proofs.Common.{take, Some}
 use Rattle.world_cells.specs.declared.cells.Cell.TheVariants as cell
 use Rattle.row_change.specs.Steps.{LeavesReads}
 use Rattle.row_change.specs.WritesBacks.{WritesBacks}
