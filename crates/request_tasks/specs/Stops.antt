@@ -1,0 +1,19 @@
+-- What a planner's parts answer, against definitions that know no want of memory.
+use Rattle.std.specs.Prelude.{◌≡◌, ⊤, Result, Ok, Err}
+use Rattle.request_tasks.specs.declared.stops.Stop.{Stop}
+use Rattle.request_tasks.specs.declared.stops.Stop.TheVariants.{Because, NoMemory}
+
+-- a stop for this reason
+abbrev pub IsStop : {R : Type 0} → Stop R → R → Type 0
+IsStop (Because r) reason = r ≡ reason
+IsStop NoMemory reason = ⊤
+
+-- a stop by what the definition says
+abbrev pub Stops : {T R : Type 0} → Stop R → Result T R → Type 0
+Stops (Because r) d = d ≡ Err r
+Stops NoMemory d = ⊤
+
+-- what the definition says
+abbrev pub Gives : {T R : Type 0} → Result T (Stop R) → Result T R → Type 0
+Gives (Ok x) d = d ≡ Ok x
+Gives (Err stop) d = Stops stop d

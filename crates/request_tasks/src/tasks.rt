@@ -1,0 +1,139 @@
+ghost use Rattle.std.specs.Prelude.{◌≡◌, [], codes, false, if◌then◌else◌, not, true};
+ghost use Rattle.error_objects.specs.declared.codes.Code.TheVariants as code;
+ghost use Rattle.error_objects.specs.Refusals.{at_header};
+ghost use Rattle.request_model.specs.Negotiation.{acceptable, content};
+ghost use Rattle.request_model.specs.Plans.{change_without_query, fetch_of, is_fetch, is_list, judged};
+ghost use Rattle.request_model.specs.Results.{err_if};
+ghost use Rattle.request_model.specs.Targets.{allow_of, need_of};
+ghost use Rattle.request_tasks.specs.BuiltPlans.{is_built, task_or_reply_so_far, task_so_far};
+ghost use Rattle.request_tasks.specs.Stops.{Gives};
+
+use crate::changes::change_without_query;
+use crate::fetches::{fetch_of, is_fetch, is_page};
+use crate::replies::{not_allowed, or_reply, refuse, refuse_header, reply_with};
+use crate::stops::Stop;
+use error_objects::{Code, Refusal};
+use http_messages::{Field, Message, Reply};
+use media_types::{Judged, accept_ok, content_ok};
+use resource_schema::{Schema, Target};
+use route_table::{allow_of, allows, find_target, need_of};
+use std::alloc::Global;
+use task_forms::Task;
+use uri_texts::split_target;
+
+/// The refusal of fields that describe the content wrongly (JSON:API 1.1, "Server Responsibilities").
+fn judged(alloc: Global, how: Judged) -> Result<(), Stop<Refusal>>
+    ensures { Gives result (judged how) }
+{
+    match how {
+        Judged::Good => Ok(()),
+        Judged::BadType => Err(refuse_header(alloc, Code::UnsupportedMediaType, "Content-Type")),
+        Judged::BadEncoding => Err(refuse_header(
+            alloc,
+            Code::UnsupportedMediaType,
+            "Content-Encoding",
+        )),
+    }
+}
+
+/// The fields describe content that can be read.
+fn check_content(
+    alloc: Global,
+    schema: &Schema,
+    message: &Message,
+    target: &Target,
+) -> Result<(), Stop<Refusal>>
+    ensures { Gives result (judged (content message.now.fields (need_of (allow_of schema.now target.now) message.now.method))) }
+{
+    let need = need_of(allow_of(schema, target), message.method.as_str());
+    judged(alloc, content_ok(alloc, message.fields.as_slice(), need)?)
+}
+
+/// The fields accept a type that is given (RFC 9110, section 12.5.1).
+fn check_accept(alloc: Global, fields: &[Field]) -> Result<(), Stop<Refusal>>
+    ensures { Gives result (err_if (not (acceptable fields.now)) (at_header code.NotAcceptable (codes "Accept"))) }
+{
+    if accept_ok(alloc, fields)? {
+        Ok(())
+    } else {
+        Err(refuse_header(alloc, Code::NotAcceptable, "Accept"))
+    }
+}
+
+/// The request is a list of operations.
+fn is_list(target: &Target) -> bool
+    ensures { result ≡ is_list target.now }
+{
+    match target {
+        Target::Operations => true,
+        _ => false,
+    }
+}
+
+/// Whether requests of this form are built.
+fn is_built(schema: &Schema, target: &Target, method: &str, query: &str) -> bool
+    ensures built { result ≡ is_built schema.now target.now method.now query.now }
+    ensures empty { result ≡ true → query.now ≡ [] }
+    ensures no_list { result ≡ true → is_list target.now ≡ false }
+{
+    query.is_empty() && !is_list(target) && !(is_fetch(method) && is_page(schema, target))
+}
+
+/// The task of a request without a query.
+fn task_without_query(
+    alloc: Global,
+    schema: &Schema,
+    message: &Message,
+    target: &Target,
+) -> Result<Task, Stop<Refusal>>
+    requires { is_list target.now ≡ false }
+    ensures { Gives result (if is_fetch message.now.method then fetch_of schema.now target.now [] else change_without_query schema.now message.now.method message.now.body target.now []) }
+{
+    if is_fetch(message.method.as_str()) {
+        Ok(fetch_of(alloc, target))
+    } else {
+        change_without_query(alloc, schema, message, target)
+    }
+}
+
+/// Negotiation, then whether the form is built, then the body.
+fn task_so_far(
+    alloc: Global,
+    schema: &Schema,
+    message: &Message,
+    target: &Target,
+    query: &str,
+) -> Result<Task, Stop<Refusal>>
+    ensures { Gives result (task_so_far schema.now message.now target.now query.now) }
+{
+    check_content(alloc, schema, message, target)?;
+    check_accept(alloc, message.fields.as_slice())?;
+    if !is_built(schema, target, message.method.as_str(), query) {
+        return Err(refuse(Code::NotBuilt));
+    }
+    task_without_query(alloc, schema, message, target)
+}
+
+/// Target, path and method, then the rest.
+pub fn task_or_reply_so_far(
+    alloc: Global,
+    schema: &Schema,
+    message: &Message,
+) -> Result<Task, Stop<Reply>>
+    ensures { Gives result (task_or_reply_so_far schema.now message.now) }
+{
+    let Some((path, query)) = split_target(message.target.as_str()) else {
+        return Err(reply_with(alloc, Code::BadTarget));
+    };
+    let Some(target) = find_target(alloc, schema, path)? else {
+        return Err(reply_with(alloc, Code::NotFound));
+    };
+    let allow = allow_of(schema, &target);
+    if !allows(allow, message.method.as_str()) {
+        return Err(not_allowed(alloc, allow));
+    }
+    match task_so_far(alloc, schema, message, &target, query) {
+        Ok(task) => Ok(task),
+        Err(stop) => Err(or_reply(alloc, &stop)),
+    }
+}
