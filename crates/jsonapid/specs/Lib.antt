@@ -1,6 +1,2 @@
-pub mod Alone
-pub mod NotePlans
-pub mod NoteRows
-pub mod NoteTasks
 pub mod Notices
-pub mod Pipes
+pub mod SchemaFiles

@@ -1,0 +1,6 @@
+//! x
+#![tactic(auto)]
+
+mod connections;
+mod notices;
+mod schemas;
