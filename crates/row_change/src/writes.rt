@@ -1,4 +1,4 @@
-ghost use Rattle.std.specs.Prelude.{◌≡◌, ◌≤◌, OnOk, Some, None, ⊤, option_copied, length, take};
+ghost use Rattle.std.specs.Prelude.{◌≡◌, ◌≢◌, ◌≤◌, ◌<◌, OnOk, Some, None, ⊤, [], option_copied, length, take, get_or};
 ghost use Rattle.resource_schema.specs.declared.schema.Schema.{Schema as Types};
 ghost use Rattle.resource_schema.specs.Kinds.{relationships_of};
 ghost use Rattle.world_cells.specs.declared.cells.Cell.TheVariants as cell;
@@ -132,6 +132,7 @@ fn shared_front(left: &[Id], right: &[Id]) -> usize
     ensures left { result ≤ length left.now }
     ensures right { result ≤ length right.now }
     ensures same { take result left.now ≡ take result right.now }
+    ensures longest { result < length left.now → result < length right.now → get_or left.now result [] ≢ get_or right.now result [] }
 {
     let mut count = 0;
     while count < left.len() && count < right.len() && left[count] == right[count] {
