@@ -1,5 +1,5 @@
 -- What writes at ways back leave at each cell key.
-use Rattle.std.proofs.Common.{◌≡◌, ℕ, ◌+◌, ◌<◌, List, [], ◌∷◌, Bool, true, false, length, take, get_or, nat_eq, refl, sym, ap, subst, ◌∙◌, Option, Some, None}
+use Rattle.std.proofs.Common.{◌≡◌, ℕ, ◌+◌, ◌-◌, ◌<◌, List, [], ◌∷◌, ◌++◌, Bool, true, false, length, take, drop, get_or, nat_eq, refl, sym, ap, subst, ◌∙◌, Option, Some, None, arith}
 use Rattle.std.specs.Prelude.{cond, not, ◌&&◌, ◌||◌}
 use Rattle.std.specs.List.{list_any}
 use Rattle.std.specs.declared.cmp.Ordering.{Ordering}
@@ -7,9 +7,10 @@ use Rattle.std.specs.declared.cmp.Ordering.TheVariants.{Less, Equal, Greater}
 use Rattle.std.specs.Ordering.{is_eq, ordering_then, nat_cmp}
 use Rattle.std.specs.Cmp.{tied_itself, nat_cmp_total}
 use Rattle.std.specs.Cmp.Lexicographic.{pointwise, nat_list_eq_equiv}
-use Rattle.std.proofs.lemmas.List.Folds.{list_any_more}
+use Rattle.std.proofs.lemmas.List.{take-append-drop, take_more, take_all, length-drop}
+use Rattle.std.proofs.lemmas.List.Folds.{list_any_more, list_any-append}
 use Rattle.ident_rules.specs.declared.key.Key.{Key}
-use Rattle.ident_rules.specs.IdOrder.{id_cmp, id_cmp_ties}
+use Rattle.ident_rules.specs.IdOrder.{id_cmp, id_cmp_ties, id_cmp-IsAntisymmetric}
 use Rattle.ident_rules.specs.Key.{key_cmp, key_cmp_total}
 use Rattle.world_cells.specs.declared.keys.CellKey.{CellKey}
 use Rattle.world_cells.specs.declared.cells.Cell.{Cell}
@@ -20,7 +21,7 @@ use Rattle.world_cells.specs.CellLaws.{overlay-put}
 use Rattle.world_cells.specs.Reads.{overlay}
 use Rattle.store_model.specs.Valid.{same_id}
 use Rattle.view_reads.specs.Places.{Wrote}
-use Rattle.row_change.specs.WritesBacks.{back_from, is_back_of, WritesBacks, TurnsBacks}
+use Rattle.row_change.specs.WritesBacks.{back_from, is_back_of, WritesBacks, turned, TurnsBacks}
 
 -- ---- keys that tie
 
@@ -119,8 +120,53 @@ wrote_same kind from rel ids kept c start old i x below at there before f k =
 
 -- ---- one link
 
--- the ways back from the ids that go, and then those from the ids that come
-pub turned_backs : (kind : ℕ) (from : Key) (rel : ℕ) (old new : List (List ℕ)) (before mid after : List Written)
-    → WritesBacks kind from rel old new None before mid → WritesBacks kind from rel new old (Some cell.Back) mid after → TurnsBacks kind from rel old new before after
-turned_backs kind from rel old new before mid after removed put f k =
-    put f k ∙ ap (cond (is_back_of kind from rel new k && not (is_back_of kind from rel old k)) (Some cell.Back)) (removed f k)
+-- the front of a list, and what is behind it
+front_or_rest : (kind : ℕ) (from : Key) (rel n : ℕ) (ids : List (List ℕ)) (k : CellKey)
+    → is_back_of kind from rel ids k ≡ (is_back_of kind from rel (take n ids) k || is_back_of kind from rel (drop n ids) k)
+front_or_rest kind from rel n ids k =
+    ap (λ l. is_back_of kind from rel l k) (sym (take-append-drop n ids))
+    ∙ list_any-append (λ id. same_cell_key k (back_from kind from rel id)) (take n ids) (drop n ids)
+
+-- what both lists share is neither removed nor put
+shared_stays : (a o n : Bool) (c : Option Cell) → cond (n && not (a || o)) (Some cell.Back) (cond (o && not (a || n)) None c) ≡ turned (a || o) (a || n) c
+shared_stays true true true c = refl
+shared_stays true true false c = refl
+shared_stays true false true c = refl
+shared_stays true false false c = refl
+shared_stays false o n c = refl
+
+-- behind a front that both lists share, the ways back from the ids that go, and then those from the ids that come
+pub turned_backs : (kind : ℕ) (from : Key) (rel : ℕ) (old new : List (List ℕ)) (n : ℕ) (gone come : List (List ℕ)) (before mid after : List Written)
+    → take n old ≡ take n new → gone ≡ drop n old → come ≡ drop n new
+    → WritesBacks kind from rel gone new None before mid → WritesBacks kind from rel come old (Some cell.Back) mid after → TurnsBacks kind from rel old new before after
+turned_backs kind from rel old new n gone come before mid after shared is_gone is_come removed put f k =
+    let was : is_back_of kind from rel old k ≡ (is_back_of kind from rel (take n old) k || is_back_of kind from rel (drop n old) k) = front_or_rest kind from rel n old k in
+    let is : is_back_of kind from rel new k ≡ (is_back_of kind from rel (take n old) k || is_back_of kind from rel (drop n new) k) =
+    front_or_rest kind from rel n new k ∙ ap (λ l. is_back_of kind from rel l k || is_back_of kind from rel (drop n new) k) (sym shared) in
+    subst (λ (l : List (List ℕ)). WritesBacks kind from rel l old (Some cell.Back) mid after) is_come put f k
+    ∙ ap (cond (is_back_of kind from rel (drop n new) k && not (is_back_of kind from rel old k)) (Some cell.Back))
+    (subst (λ (l : List (List ℕ)). WritesBacks kind from rel l new None before mid) is_gone removed f k)
+    ∙ ap (λ b. cond (is_back_of kind from rel (drop n new) k && not b) (Some cell.Back) (cond (is_back_of kind from rel (drop n old) k && not (is_back_of kind from rel new k)) None (overlay f before k))) was
+    ∙ ap (λ b. cond (is_back_of kind from rel (drop n new) k && not (is_back_of kind from rel (take n old) k || is_back_of kind from rel (drop n old) k)) (Some cell.Back)
+    (cond (is_back_of kind from rel (drop n old) k && not b) None (overlay f before k))) is
+    ∙ shared_stays (is_back_of kind from rel (take n old) k) (is_back_of kind from rel (drop n old) k) (is_back_of kind from rel (drop n new) k) (overlay f before k)
+    ∙ ap (λ b. turned b (is_back_of kind from rel (take n old) k || is_back_of kind from rel (drop n new) k) (overlay f before k)) (sym was)
+    ∙ ap (λ b. turned (is_back_of kind from rel old k) b (overlay f before k)) (sym is)
+
+-- ---- a shared front
+
+-- all that is behind a place, as a slice from there has it
+pub rest_from : (n : ℕ) (ids : List (List ℕ)) → take (length ids - n) (drop n ids) ≡ drop n ids
+rest_from n ids = take_all (length ids - n) (drop n ids) (omega (arith, length-drop n ids))
+
+id_is : (x y : List ℕ) → pointwise nat_eq x y ≡ true → x ≡ y
+id_is x y e = id_cmp-IsAntisymmetric x y (is_equal _ (sym (id_cmp_ties x y) ∙ e))
+
+-- one more id that is the same in both lists
+pub shared_more : (left right : List (List ℕ)) (i : ℕ) (x y : List ℕ) → i < length left → i < length right → x ≡ get_or left i x → y ≡ get_or right i y
+    → pointwise nat_eq x y ≡ true → take i left ≡ take i right → take (i + 1) left ≡ take (i + 1) right
+shared_more left right i x y in_left in_right at_left at_right same so_far =
+    take_more left i x in_left
+    ∙ ap (λ l. l ++ get_or left i x ∷ []) so_far
+    ∙ ap (λ z. take i right ++ z ∷ []) (sym at_left ∙ id_is x y same ∙ at_right)
+    ∙ sym (take_more right i y in_right)

@@ -1,4 +1,4 @@
-ghost use Rattle.std.specs.Prelude.{◌≡◌, ◌≤◌, OnOk, Some, None, ⊤, option_copied, length};
+ghost use Rattle.std.specs.Prelude.{◌≡◌, ◌≢◌, ◌≤◌, ◌<◌, OnOk, Some, None, ⊤, [], option_copied, length, take, get_or};
 ghost use Rattle.resource_schema.specs.declared.schema.Schema.{Schema as Types};
 ghost use Rattle.resource_schema.specs.Kinds.{relationships_of};
 ghost use Rattle.world_cells.specs.declared.cells.Cell.TheVariants as cell;
@@ -14,7 +14,10 @@ use view_reads::{Recorder, View};
 use world_cells::{Cell, CellKey, Link, Row};
 
 /// Writes a row in place of an old one, and the ways back to it: those from what the old one linked to and the new one does
-/// not are removed, and those from what only the new one links to are put.
+/// not are removed, and those from what only the new one links to are put (JSON:API 1.1, "Updating Resources" and "Updating
+/// Relationships").
+///
+/// Its one error is want of memory, after which some of these writes may stand.
 pub fn put_row<V: View>(
     schema: &Schema,
     old: Option<&Row>,
@@ -29,7 +32,9 @@ pub fn put_row<V: View>(
     recorder.put(CellKey::Row(key), Cell::Row(new))
 }
 
-/// Removes a row, and the ways back to it from what it links to.
+/// Removes a row, and the ways back to it from what it links to (JSON:API 1.1, "Deleting Resources").
+///
+/// Its one error is want of memory, after which some of these writes may stand.
 pub fn remove_row<V: View>(
     schema: &Schema,
     old: &Row,
@@ -42,7 +47,7 @@ pub fn remove_row<V: View>(
     recorder.remove(CellKey::Row(old.key))
 }
 
-/// Writes the next id of a type.
+/// Writes the next id of a type. Its one error is want of memory, after which nothing more is written.
 pub fn put_next<V: View>(kind: u32, number: u64, recorder: &mut Recorder<V>) -> Result<(), NoMemory>
     ensures leaves { LeavesReads recorder.old recorder.new }
     ensures leads { OnOk result ((schema : Types) → LeadsOn schema (λ now. ⊤) (λ now. with_next now kind number) recorder.old.writes recorder.new.writes) }
@@ -122,6 +127,20 @@ fn back_from(kind: u32, from: &Key, rel: u32, id: &Id) -> CellKey
     }
 }
 
+/// How many ids two lists share at their front. Most changes leave a long one.
+fn shared_front(left: &[Id], right: &[Id]) -> usize
+    ensures left { result ≤ length left.now }
+    ensures right { result ≤ length right.now }
+    ensures same { take result left.now ≡ take result right.now }
+    ensures longest { result < length left.now → result < length right.now → get_or left.now result [] ≢ get_or right.now result [] }
+{
+    let mut count = 0;
+    while count < left.len() && count < right.len() && left[count] == right[count] {
+        count += 1;
+    }
+    count
+}
+
 /// Rewrites the ways back to a row from what one of its links led to, and from what it leads to now.
 fn rewrite_link<V: View>(
     kind: u32,
@@ -134,8 +153,9 @@ fn rewrite_link<V: View>(
     ensures leaves { LeavesReads recorder.old recorder.new }
     ensures backs { OnOk result (TurnsBacks kind from.now rel old.now new.now recorder.old.writes recorder.new.writes) }
 {
-    remove_backs(kind, from, rel, old, new, recorder)?;
-    put_backs(kind, from, rel, new, old, recorder)
+    let shared = shared_front(old, new);
+    remove_backs(kind, from, rel, &old[shared..], new, recorder)?;
+    put_backs(kind, from, rel, &new[shared..], old, recorder)
 }
 
 /// Rewrites the ways back to a row from what its links led to, and from what they lead to now.
