@@ -1,3 +1,4 @@
+ghost use Rattle.std.specs.Prelude.{◌≡◌};
 ghost use Rattle.view_reads.specs.Recording.{Follows};
 ghost use Rattle.row_change.specs.Trial.{TellsChange, StaysInReach, read_of};
 
@@ -14,6 +15,19 @@ use resource_schema::Schema;
 use std::alloc::Global;
 use task_forms::Operation;
 use view_reads::{Recorder, View};
+
+/// What a step that may stop answers.
+fn read_of(tried: Result<Option<Key>, Stop>) -> Read<Option<Key>>
+    ensures { result ≡ read_of tried }
+{
+    match tried {
+        Ok(key) => Read::Good(key),
+        Err(stop) => match stop {
+            Stop::Refused(refusal) => Read::Refused(refusal),
+            Stop::NoMemory => Read::NoMemory,
+        },
+    }
+}
 
 /// One operation, up to its first refusal.
 fn try_change<V: View>(
@@ -73,9 +87,5 @@ pub fn change<V: View>(
     ensures outcome { TellsChange schema.now V.cells at.now operation.now lids.old lids.new recorder.old recorder.new result }
     ensures reach { StaysInReach schema.now V.cells operation.now lids.old recorder.old recorder.new }
 {
-    match try_change(alloc, schema, operation, at, lids, recorder, work) {
-        Ok(key) => Read::Good(key),
-        Err(Stop::Refused(refusal)) => Read::Refused(refusal),
-        Err(Stop::NoMemory) => Read::NoMemory,
-    }
+    read_of(try_change(alloc, schema, operation, at, lids, recorder, work))
 }
