@@ -4,6 +4,8 @@ ghost use Rattle.world_cells.specs.World.{row_at, has_row, next_id};
 ghost use Rattle.store_model.specs.Change.{key_of, refuse_target, named_row, at_target};
 ghost use Rattle.store_model.specs.Run.{refusal_under};
 ghost use Rattle.store_model.specs.Reach.{is_row_in, is_counter_of, target_keys};
+ghost use Rattle.std.specs.Option.{option_copied};
+ghost use Rattle.row_change.specs.Found.{row_of, number_of};
 ghost use Rattle.row_change.specs.Steps.{LooksAt, Sees, Judges};
 
 use crate::stops::Stop;
@@ -26,7 +28,15 @@ pub fn find_row<V: View>(
     ensures looks { LooksAt (is_row_in (key.now ∷ [])) recorder.old recorder.new }
     ensures sees { (schema : Schema) → Sees schema V.cells recorder.old recorder.new (λ now. IfOk result (λ row. row ≡ row_at now key.now)) }
 {
-    match recorder.get(&CellKey::Row(*key), work)? {
+    let found = recorder.get(&CellKey::Row(*key), work)?;
+    copied_row(alloc, found)
+}
+
+/// A copy of the row in a cell, if it has one.
+fn copied_row(alloc: Global, found: Option<&Cell>) -> Result<Option<Row>, NoMemory>
+    ensures { IfOk result (λ row. row ≡ row_of (option_copied found.entry)) }
+{
+    match found {
         Some(Cell::Row(row)) => Ok(Some(row.copy(alloc)?)),
         _ => Ok(None),
     }
@@ -54,9 +64,17 @@ pub fn next_number<V: View>(
     ensures looks { LooksAt (is_counter_of kind) recorder.old recorder.new }
     ensures sees { (schema : Schema) → Sees schema V.cells recorder.old recorder.new (λ now. IfOk result (λ n. n ≡ next_id now kind)) }
 {
-    match recorder.get(&CellKey::Counter(kind), work)? {
-        Some(Cell::Counter(number)) => Ok(*number),
-        _ => Ok(1),
+    let found = recorder.get(&CellKey::Counter(kind), work)?;
+    Ok(number_in(found))
+}
+
+/// The next id in a counter's cell: 1 where there is none.
+fn number_in(found: Option<&Cell>) -> u64
+    ensures { result ≡ number_of (option_copied found.entry) }
+{
+    match found {
+        Some(Cell::Counter(number)) => *number,
+        _ => 1,
     }
 }
 
