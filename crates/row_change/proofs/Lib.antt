@@ -1,3 +1,5 @@
 pub mod StepLaws
 pub mod Finding
 pub mod Targets
+pub mod Theres
+pub mod Judging
