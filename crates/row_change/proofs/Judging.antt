@@ -1,7 +1,7 @@
 -- A list that is judged item by item: what was looked at so far, and its first refusal.
 use Rattle.std.proofs.Common.{◌≡◌, ℕ, ◌+◌, ◌<◌, suc, List, [], ◌∷◌, ◌++◌, refl, sym, ap, subst, ◌∙◌, Option, Some, None, length, get_or, take, drop, arith, add-one, drop-cons, append_assoc}
-use Rattle.std.specs.Prelude.{map, Err, ⊤}
-use Rattle.std.proofs.Math.Seq.{take-suc}
+use Rattle.std.specs.Prelude.{map, ◌≤◌, Result, Ok, Err, IsErr, IsErrAnd}
+use Rattle.std.proofs.Math.Seq.{take-suc, take-length}
 use Rattle.std.proofs.lemmas.List.{take-append-drop, map-append}
 use Rattle.ident_rules.specs.declared.key.Key.{Key}
 use Rattle.world_cells.specs.declared.keys.CellKey.{CellKey}
@@ -90,3 +90,17 @@ module _ {A : Type 0} (keys : List A → List Key) (splits : (xs ys : List A) �
       subst (λ (ks : List Key). LooksAt (is_row_in ks) a c) (sym (splits (take i xs ++ m ∷ []) (drop (suc i) xs)) ∙ ap keys (parted xs i m lt is))
       (looks_more (is_row_in (keys (take i xs ++ m ∷ []))) (is_row_in (keys (take i xs ++ m ∷ []) ++ keys (drop (suc i) xs))) a c (row_in_left (keys (take i xs ++ m ∷ [])) (keys (drop (suc i) xs)))
       (looks_parts xs i m a b c f g))
+
+-- ---- the end of a list, and an error that is passed on
+
+pub all_taken : {A : Type 0} (xs : List A) (i : ℕ) → i ≤ length xs → length xs ≤ i → take i xs ≡ xs
+all_taken xs i low high = let e : i ≡ length xs = omega arith in ap (λ n. take n xs) e ∙ take-length xs
+
+err_passed : {U : Type 0} (r : Result U Stop) (stop : Stop) → IsErr r → IsErrAnd r (λ e. e ≡ stop) → r ≡ Err stop
+err_passed (Ok x) stop is h = cc is
+err_passed (Err e) stop is h = ap Err h
+
+pub judges_passed : {T U : Type 0} (at : List ℕ) (mine whole : Option Refusal) (P : T → Type 0) (Q : U → Type 0) (stop : Stop) (r : Result U Stop) → IsErr r → IsErrAnd r (λ e. e ≡ stop)
+    → ((x : Refusal) → mine ≡ Some x → whole ≡ Some x) → Judges at mine P (Err stop) → Judges at whole Q r
+judges_passed {T} {U} at mine whole P Q stop r is passed more told =
+    subst (λ (x : Result U Stop). Judges at whole Q x) (sym (err_passed r stop is passed)) (judges_stop at mine whole P Q stop more told)
