@@ -3,3 +3,4 @@ pub mod Finding
 pub mod Targets
 pub mod Theres
 pub mod Judging
+pub mod Limits
