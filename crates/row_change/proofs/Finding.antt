@@ -1,5 +1,5 @@
 -- What a look at one cell says of the rows and the next ids of each world that may stand behind the view.
-use Rattle.std.proofs.Common.{◌≡◌, ℕ, List, [], ◌∷◌, ◌++◌, Bool, refl, sym, ap, subst, ◌∙◌, Option, Some, None, Result, Ok, Err}
+use Rattle.std.proofs.Common.{◌≡◌, ℕ, Bool, refl, ap, subst, ◌∙◌, Option, Some, None, Result, Ok, Err}
 use Rattle.std.proofs.Common.{eq-eqb}
 use Rattle.std.specs.Prelude.{IsTrue, IfOk, is_some, unwrap_or, option_map}
 use Rattle.store_model.specs.Reach.{is_counter_of}

@@ -4,7 +4,6 @@ use Rattle.std.specs.Prelude.{map, ◌≤◌, Result, Ok, Err, IsErr, IsErrAnd}
 use Rattle.std.proofs.Math.Seq.{take-suc, take-length}
 use Rattle.std.proofs.lemmas.List.{take-append-drop, map-append}
 use Rattle.ident_rules.specs.declared.key.Key.{Key}
-use Rattle.world_cells.specs.declared.keys.CellKey.{CellKey}
 use Rattle.error_objects.specs.declared.refusals.Refusal.{Refusal}
 use Rattle.store_model.specs.Change.{first_of}
 use Rattle.store_model.specs.Reach.{is_row_in}
@@ -82,6 +81,12 @@ module _ {A : Type 0} (keys : List A → List Key) (splits : (xs ys : List A) �
       → LooksAt (is_row_in (keys (take i xs))) a b → LooksAt (is_row_in (keys (m ∷ []))) b c → LooksAt (is_row_in (keys (take (i + 1) xs))) a c
   looks_so_far xs i m a b c lt is f g =
       subst (λ (ys : List A). LooksAt (is_row_in (keys ys)) a c) (sym (next_taken xs i m lt is)) (looks_parts xs i m a b c f g)
+
+  -- the first of a list, as part of the whole
+  pub looks_begun : {V : Type 0} (xs : List A) (i : ℕ) (a b : Recording V) → LooksAt (is_row_in (keys (take i xs))) a b → LooksAt (is_row_in (keys xs)) a b
+  looks_begun xs i a b f =
+      subst (λ (ks : List Key). LooksAt (is_row_in ks) a b) (sym (splits (take i xs) (drop i xs)) ∙ ap keys (take-append-drop i xs))
+      (looks_more (is_row_in (keys (take i xs))) (is_row_in (keys (take i xs) ++ keys (drop i xs))) a b (row_in_left (keys (take i xs)) (keys (drop i xs))) f)
 
   -- as part of the whole list
   pub looks_here : {V : Type 0} (xs : List A) (i : ℕ) (m : A) (a b c : Recording V) → i < length xs → m ≡ get_or xs i m

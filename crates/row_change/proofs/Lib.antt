@@ -4,3 +4,4 @@ pub mod Targets
 pub mod Theres
 pub mod Judging
 pub mod Limits
+pub mod LinkSteps

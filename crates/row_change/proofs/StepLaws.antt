@@ -1,5 +1,5 @@
 -- One step after another: what both look at, and what is seen of either.
-use Rattle.std.proofs.Common.{◌≡◌, List, [], ◌∷◌, ◌++◌, Bool, true, false, refl, sym, ap, subst, ◌∙◌, Option, Some, None}
+use Rattle.std.proofs.Common.{◌≡◌, List, [], ◌∷◌, ◌++◌, Bool, true, false, refl, sym, ap, subst, ◌∙◌}
 use Rattle.std.specs.Prelude.{◌||◌, IsTrue, IsFalse}
 use Rattle.std.specs.List.{list_any}
 use Rattle.std.specs.Cmp.{tied_itself}
@@ -14,10 +14,9 @@ use Rattle.world_cells.specs.declared.keys.CellKey.{CellKey}
 use Rattle.world_cells.specs.declared.keys.CellKey.TheVariants as cell_key
 use Rattle.world_cells.specs.declared.sets.ReadSet.{ReadSet}
 use Rattle.world_cells.specs.declared.sets.Written.{Written}
-use Rattle.world_cells.specs.CellOrder.{cell_key_cmp, cell_key_cmp-IsAntisymmetric, same_cell_key}
-use Rattle.world_cells.specs.Reads.{Cells, covers, in_part, Leads}
+use Rattle.world_cells.specs.CellOrder.{cell_key_cmp-IsAntisymmetric, same_cell_key}
+use Rattle.world_cells.specs.Reads.{Cells, covers, Leads}
 use Rattle.world_cells.specs.World.{World, cell_at}
-use Rattle.store_model.specs.Included.{has_key}
 use Rattle.store_model.specs.Reach.{is_row_in}
 use Rattle.view_reads.specs.Recording.{Recording, Follows, read_key}
 use Rattle.view_reads.specs.RecordingLaws.{still_read, follows_itself, follows_on}
@@ -74,6 +73,7 @@ only_key reads key k new old =
     left_new false true false e f = cc e
     left_new false false true e f = cc f
     left_new false false false e f = cc e
+
     left_old : (a b : Bool) → (a || b) ≡ false → a ≡ false
     left_old true b e = cc e
     left_old false b e = refl

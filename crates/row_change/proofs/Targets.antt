@@ -1,5 +1,5 @@
 -- The resource that an operation changes: what it is refused for, and its row.
-use Rattle.std.proofs.Common.{◌≡◌, ℕ, List, [], refl, ap, subst, sym, ◌∙◌, Option, Some, None}
+use Rattle.std.proofs.Common.{◌≡◌, [], ap, ◌∙◌, Some, None}
 use Rattle.std.specs.Prelude.{codes, is_some, not}
 use Rattle.std.specs.Option.{option_and_then}
 use Rattle.ident_rules.specs.declared.key.Key.{Key}
@@ -7,7 +7,6 @@ use Rattle.world_cells.specs.declared.rows.Row.{Row}
 use Rattle.world_cells.specs.World.{World, row_at}
 use Rattle.task_forms.specs.declared.operations.Who.{Who}
 use Rattle.error_objects.specs.declared.codes.Code.TheVariants as code
-use Rattle.error_objects.specs.declared.refusals.Refusal.{Refusal}
 use Rattle.store_model.specs.Change.{Lids, key_of, refuse_key, refuse_target, at_target, named_row, when}
 
 pub target_unbound : (now : World) (lids : Lids) (who : Who) → key_of lids who.named ≡ None → refuse_target now lids who ≡ Some (at_target code.UnknownLid who (codes "/lid"))

@@ -1,8 +1,6 @@
 -- Where a link may lead: the tests of a row, and the refusal of one member.
-use Rattle.std.proofs.Common.{◌≡◌, ℕ, List, [], ◌∷◌, ◌++◌, Bool, true, false, refl, sym, ap, subst, ◌∙◌, Option, Some, None, Result, Ok, Err}
-use Rattle.std.specs.Prelude.{◌||◌, IfOk, not, map}
-use Rattle.std.specs.Option.{option_map}
-use Rattle.std.specs.List.{filter_map}
+use Rattle.std.proofs.Common.{◌≡◌, ℕ, List, ◌++◌, Bool, true, false, sym, ap, subst, ◌∙◌, Some, None, Result, Ok, Err}
+use Rattle.std.specs.Prelude.{◌||◌, IfOk, not}
 use Rattle.ident_rules.specs.declared.key.Key.{Key}
 use Rattle.ident_rules.specs.declared.memory.NoMemory.{NoMemory}
 use Rattle.ident_rules.specs.Key.{same_key}
@@ -10,8 +8,7 @@ use Rattle.world_cells.specs.World.{World, has_row}
 use Rattle.task_forms.specs.declared.operations.Member.{Member}
 use Rattle.error_objects.specs.declared.codes.Code.TheVariants as code
 use Rattle.error_objects.specs.Refusals.{at_pointer}
-use Rattle.store_model.specs.Change.{Lids, key_of, refuse_named, refuse_member, member_pointer, name_pointer, member_ids, when}
-use Rattle.store_model.specs.Reach.{member_keys}
+use Rattle.store_model.specs.Change.{Lids, key_of, refuse_named, refuse_member, member_pointer, name_pointer, when}
 use Rattle.row_change.specs.declared.stops.There.{There}
 use Rattle.row_change.specs.declared.stops.There.TheVariants as there
 use Rattle.row_change.specs.Steps.{is_there}

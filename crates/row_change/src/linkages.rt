@@ -163,7 +163,6 @@ fn name_pointer(named: &Named) -> &'static str
     }
 }
 
-
 /// The ids of a linkage behind old ones, each once; at most 1,000 together.
 pub fn join_members<V: View>(
     alloc: Global,
@@ -179,7 +178,9 @@ pub fn join_members<V: View>(
     ensures looks { LooksAt (is_row_in (member_keys lids.now members.now)) recorder.old recorder.new }
     ensures sees { (schema : Types) → Sees schema V.cells recorder.old recorder.new (λ now. Judges at.now (refuse_linkage (is_there there now) lids.now linkage.now old.now members.now) (λ ids. ids ≡ append_new old.now (member_ids lids.now members.now)) result) }
 {
-    joined_members(alloc, at, linkage, &there, lids, old, members, recorder, work)
+    joined_members(
+        alloc, at, linkage, &there, lids, old, members, recorder, work,
+    )
 }
 
 /// The ids of a linkage behind old ones, each once; at most 1,000 together.
@@ -244,7 +245,7 @@ fn append_one(ids: &mut Vec<Id>, id: &Id) -> Result<(), NoMemory>
 }
 
 /// Whether an id is among these.
-fn has_id(ids: &[Id], id: &Id) -> bool
+pub fn has_id(ids: &[Id], id: &Id) -> bool
     ensures { result ≡ list_any (same_id id.now) ids.now }
 {
     ids.iter().any(|other| same_id(id, other))
@@ -256,7 +257,6 @@ fn same_id(one: &Id, other: &Id) -> bool
 {
     one.cmp(other) == Ordering::Equal
 }
-
 
 /// The links of a row of a type with those that are given in place of old ones, each in order.
 pub fn read_links<V: View>(
@@ -279,14 +279,28 @@ pub fn read_links<V: View>(
     for (rel, members) in links {
         let linkage = linkage_pointer(alloc, relationships, *rel)?;
         let members = members.as_slice();
-        let ids = joined_members(alloc, at, linkage.as_str(), &there, lids, &[], members, recorder, work)?;
+        let ids = joined_members(
+            alloc,
+            at,
+            linkage.as_str(),
+            &there,
+            lids,
+            &[],
+            members,
+            recorder,
+            work,
+        )?;
         set_link(&mut new, *rel, ids);
     }
     Ok(List::from_vec(new))
 }
 
 /// The pointer of a relationship's linkage in a resource.
-fn linkage_pointer(alloc: Global, relationships: &[Relationship], rel: u32) -> Result<Text, NoMemory>
+fn linkage_pointer(
+    alloc: Global,
+    relationships: &[Relationship],
+    rel: u32,
+) -> Result<Text, NoMemory>
     ensures { IfOk result (λ t. t ≡ linkage_pointer relationships.now rel) }
 {
     let name = match relationships.get(rel as usize) {
@@ -297,7 +311,7 @@ fn linkage_pointer(alloc: Global, relationships: &[Relationship], rel: u32) -> R
 }
 
 /// Sets the ids of a link, of whichever kind it is.
-fn set_link(links: &mut Vec<Link>, rel: u32, ids: List<Id>)
+pub fn set_link(links: &mut Vec<Link>, rel: u32, ids: List<Id>)
     ensures { links.new.items ≡ slice_set links.old.items rel (link_of (get_or links.old.items rel no_link) ids) }
 {
     let rel = rel as usize;

@@ -1,6 +1,5 @@
-use Rattle.std.proofs.Common.{◌≡◌, ℕ, ◌+◌, ◌<◌, List, [], ◌∷◌, ◌++◌, refl, sym, ap, ◌∙◌, length, get_or, take, arith, None, Some, Option, Err}
+use Rattle.std.proofs.Common.{◌≡◌, ℕ, ◌<◌, List, [], ◌∷◌, ◌++◌, sym, ap, ◌∙◌, length, take, arith, None, Option, Err}
 use Rattle.std.specs.Prelude.{map, ⊤}
-use Rattle.std.specs.List.{filter_map}
 use Rattle.std.proofs.lemmas.List.Elements.{filter_map-append}
 use Rattle.task_forms.specs.declared.operations.Member.{Member}
 use Rattle.store_model.specs.Change.{first_of, refuse_member, member_ids, key_of}
@@ -61,6 +60,7 @@ loop-member-preserved g c =
 pub returns-clause-sees : goal.returns-clause-sees
 returns-clause-sees g c =
     let e : take c.loop-member.member-index c.args.members.now ≡ c.args.members.now = all_taken c.args.members.now c.loop-member.member-index (omega arith) (omega arith) in
-    λ schema w now behind leads.
-    (ap (λ ms. first_of (map (refuse_member (is_there c.args.there.now now) c.args.lids.now c.args.linkage.now) ms)) (sym e) ∙ c.loop-member.invariant.sees schema w now behind leads,
-    c.from_vec.ensures ∙ c.loop-member.invariant.ids ∙ ap (member_ids c.args.lids.now) e)
+    λ schema w now behind leads. (
+      ap (λ ms. first_of (map (refuse_member (is_there c.args.there.now now) c.args.lids.now c.args.linkage.now) ms)) (sym e) ∙ c.loop-member.invariant.sees schema w now behind leads,
+      c.from_vec.ensures ∙ c.loop-member.invariant.ids ∙ ap (member_ids c.args.lids.now) e,
+    )
