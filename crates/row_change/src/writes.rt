@@ -37,7 +37,11 @@ pub fn remove_row<V: View>(
 }
 
 /// Writes the next id of a type.
-pub fn put_next<V: View>(kind: u32, number: u64, recorder: &mut Recorder<V>) -> Result<(), NoMemory>
+pub fn put_next<V: View>(
+    kind: u32,
+    number: u64,
+    recorder: &mut Recorder<V>,
+) -> Result<(), NoMemory>
     ensures leaves { LeavesReads recorder.old recorder.new }
     ensures leads { OnOk result ((schema : Types) → LeadsOn schema (λ now. ⊤) (λ now. with_next now kind number) recorder.old.writes recorder.new.writes) }
 {
