@@ -1,3 +1,10 @@
 pub mod Backs
 pub mod Leading
 pub mod Rewriting
+pub mod StepLaws
+pub mod Finding
+pub mod Targets
+pub mod Theres
+pub mod Judging
+pub mod Limits
+pub mod LinkSteps
