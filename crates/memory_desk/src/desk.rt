@@ -38,7 +38,7 @@ impl MemoryDesk {
     /// A desk on an empty store. Takes no memory.
     pub fn new(alloc: Global, schema: Schema) -> MemoryDesk
         ensures schema { result.schema ≡ schema }
-        ensures stands { StandsAlone (desk_meaning schema) (overlay nothing result.cells) empty_world [] [] }
+        ensures stands { StandsAlone (desk_meaning result.schema) (overlay nothing result.cells) empty_world [] [] }
     {
         store_is_lawful();
         MemoryDesk {

@@ -1,6 +1,0 @@
-//! x
-#![tactic(auto)]
-
-mod connections;
-mod notices;
-mod schemas;
