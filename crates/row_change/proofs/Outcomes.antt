@@ -1,6 +1,7 @@
 -- From what was judged to the outcome of an operation, and from what was looked at to its reach.
 use Rattle.std.proofs.Common.{◌≡◌, ℕ, ◌≤◌, List, [], ◌∷◌, ◌++◌, Bool, true, false, refl, sym, ap, subst, ◌∙◌, Option, Some, None, Result, Ok, Err, length, rules}
 use Rattle.std.specs.Prelude.{IsTrue, IsFalse, ◌||◌, ◌+◌, is_some, if◌then◌else◌, map, slice_set, get_or, codes}
+use Rattle.std.proofs.lemmas.List.{length-map}
 use Rattle.ident_rules.specs.declared.key.Key.{Key}
 use Rattle.resource_schema.specs.declared.schema.Schema.{Schema}
 use Rattle.resource_schema.specs.declared.kinds.Relationship.{Relationship}
@@ -70,7 +71,7 @@ last_one (Some d) = refl
 
 module _ (schema : Schema) (now : World) (lids : Lids) (kind : ℕ) (id lid : Option (List ℕ)) (values : List AttrValue) (links : List (ℕ × List Member)) where
   -- the linkages, where the id of the new row is x
-  links_refused : List ℕ → Lids → Option Refusal
+  abbrev links_refused : List ℕ → Lids → Option Refusal
   links_refused x bound = refuse_links (is_there (there.AtRowOr (record { kind = kind; id = x })) now) bound (relationships_of schema kind) links
 
   pub refused_lid : is_bound lids kind lid ≡ true → refused schema now lids (Create kind id lid values links) ≡ Some (at_pointer code.LidBound (codes "/data/lid"))
@@ -101,7 +102,7 @@ set_links_length lids old (l ∷ links) =
     ∙ search rules
 
 empty_links_length : (rels : List Relationship) → length (empty_links rels) ≡ length rels
-empty_links_length rels = search rules
+empty_links_length rels = length-map rels _
 
 links_fit : (lids : Lids) (rels : List Relationship) (links : List (ℕ × List Member)) (n : ℕ) → length rels ≡ n → length (set_links lids (empty_links rels) links) ≤ n
 links_fit lids rels links n is = subst (λ (m : ℕ). m ≤ n) (sym (set_links_length lids (empty_links rels) links ∙ empty_links_length rels ∙ is)) (at_most n)
@@ -114,29 +115,28 @@ same_world : (now : World) (kind : ℕ) (id : Option (List ℕ)) (row : Row)
 same_world now kind None row = refl
 same_world now kind (Some x) row = refl
 
+-- a new row with this id
+abbrev pub row_of_id : List Relationship → ℕ → List AttrValue → List (ℕ × List Member) → List ℕ → Lids → Row
+row_of_id rels kind values links x bound = record { key = record { kind = kind; id = x }; values = values; links = set_links bound (empty_links rels) links }
+
 -- writes that put a new row, and with it the next id
-pub Puts : Schema → Option ℕ → Row → List Written → List Written → Type 0
+abbrev pub Puts : Schema → Option ℕ → Row → List Written → List Written → Type 0
 Puts schema next row before after =
     LeadsOn schema (λ now. (row_at now row.key ≡ None) × (length row.links ≤ length (relationships_of schema row.key.kind))) (λ now. with_counter (with_row now row) row.key.kind next) before after
 
 module _ {V : Type 0} (schema : Schema) (at : List ℕ) (lids : Lids) (kind : ℕ) (id lid : Option (List ℕ)) (values : List AttrValue) (links : List (ℕ × List Member)) (w now : World) where
-  rels : List Relationship
-  rels = relationships_of schema kind
-
-  row_of_id : List ℕ → Lids → Row
-  row_of_id x bound = record { key = record { kind = kind; id = x }; values = values; links = set_links bound (empty_links rels) links }
-
   pub told_created : (before : List Written) (after : Recording V) (x : List ℕ) (next : Option ℕ) (bound : Lids) (row : Row)
       → IsValid schema now → is_bound lids kind lid ≡ false → refuse_id now kind id ≡ None → x ≡ created_id now kind id → next ≡ next_after now kind id → bound ≡ bind lids kind lid x
-      → refuse_links (is_there (there.AtRowOr (record { kind = kind; id = x })) now) bound rels links ≡ None
-      → row ≡ record { key = record { kind = kind; id = x }; values = values; links = set_links bound (empty_links rels) links }
+      → refuse_links (is_there (there.AtRowOr (record { kind = kind; id = x })) now) bound (relationships_of schema kind) links ≡ None
+      → row ≡ record { key = record { kind = kind; id = x }; values = values; links = set_links bound (empty_links (relationships_of schema kind)) links }
       → Puts schema next row before after.writes → Leads (cell_at schema w) before (cell_at schema now)
       → IsOutcome schema at (apply schema now (Create kind id lid values links) lids) (read.Good (Some (record { kind = kind; id = x }))) bound w after
   told_created before after x next bound row valid is none x_is next_is bound_is good row_is puts leads =
       let y = created_id now kind id in
-      let made : Row = row_of_id y (bind lids kind lid y) in
+      let rels = relationships_of schema kind in
+      let made : Row = row_of_id rels kind values links y (bind lids kind lid y) in
       let same_lids : bound ≡ bind lids kind lid y = bound_is ∙ ap (bind lids kind lid) x_is in
-      let same_row : row ≡ made = row_is ∙ ap (λ z. row_of_id z bound) x_is ∙ ap (row_of_id y) same_lids in
+      let same_row : row ≡ made = row_is ∙ ap (λ z. row_of_id rels kind values links z bound) x_is ∙ ap (row_of_id rels kind values links y) same_lids in
       let puts_made : Puts schema (next_after now kind id) made before after.writes = subst (λ (r : Row). Puts schema (next_after now kind id) r before after.writes) same_row (subst (λ (n : Option ℕ). Puts schema n row before after.writes) next_is puts) in
       let led : Leads (cell_at schema w) after.writes (cell_at schema (with_counter (with_row now made) kind (next_after now kind id))) =
       puts_made w now valid (new_free schema now kind id valid none, links_fit (bind lids kind lid y) rels links (length rels) refl) leads in
