@@ -8,3 +8,5 @@ pub mod Theres
 pub mod Judging
 pub mod Limits
 pub mod LinkSteps
+pub mod NewIds
+pub mod Outcomes
