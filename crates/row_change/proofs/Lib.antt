@@ -1,3 +1,5 @@
 pub mod Backs
 pub mod Leading
 pub mod Rewriting
+pub mod StepBasics
+pub mod Referring
