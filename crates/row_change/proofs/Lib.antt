@@ -3,3 +3,4 @@ pub mod Leading
 pub mod Rewriting
 pub mod StepBasics
 pub mod Referring
+pub mod Removing

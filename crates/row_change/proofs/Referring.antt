@@ -1,5 +1,5 @@
 -- The first links that lead to a key say whether another row links to it.
-use Rattle.std.proofs.Common.{◌≡◌, ℕ, zero, suc, ◌+◌, ◌-◌, ◌^◌, ◌<◌, ◌≤◌, List, [], ◌∷◌, ◌++◌, Bool, true, false, refl, sym, ap, subst, ◌∙◌, Some, None, Option, Result, Ok, Err, length, get_or, arith, inl, inr}
+use Rattle.std.proofs.Common.{◌≡◌, ℕ, zero, suc, ◌+◌, ◌-◌, ◌^◌, ◌<◌, ◌≤◌, List, [], ◌∷◌, Bool, true, false, refl, sym, ap, subst, ◌∙◌, Some, None, Option, Result, Ok, Err, length, get_or, arith, inl, inr}
 use Rattle.std.specs.Prelude.{◌⊎◌, ◌&&◌, ◌||◌, not, cond, T, IsTrue, IsFalse, is_some, map, if◌then◌else◌}
 use Rattle.std.specs.Option.{option_map_or, option_map}
 use Rattle.std.specs.List.{list_any, range_with_len}
@@ -7,7 +7,7 @@ use Rattle.std.specs.Borrow.{Bor}
 use Rattle.std.specs.declared.cmp.Ordering.{Ordering}
 use Rattle.std.specs.declared.cmp.Ordering.TheVariants.{Less, Equal, Greater}
 use Rattle.std.specs.Ordering.{is_eq, is_lt, ordering_then, ordering_reverse, nat_cmp}
-use Rattle.std.specs.Cmp.{IsTotalOrder, tied_itself, ranked, eq_by_cmp_equiv}
+use Rattle.std.specs.Cmp.{tied_itself, ranked, eq_by_cmp_equiv}
 use Rattle.std.specs.FinMap.Entries.{find, is_sorted, below_all}
 use Rattle.std.proofs.lemmas.List.Folds.{list_any-append}
 use Rattle.ident_rules.specs.declared.key.Key.{Key}
@@ -32,9 +32,9 @@ use Rattle.store_model.specs.Valid.{IsValid}
 use Rattle.store_model.specs.Change.{is_referenced}
 use Rattle.store_model.specs.Reach.{is_back_to}
 use Rattle.view_reads.specs.Narrowing.{is_behind}
-use Rattle.view_reads.specs.Recording.{Recording, LookedFirst, read_part, pair_now}
-use Rattle.view_reads.specs.RecordingLaws.{part_still_read, first_looked_alike}
-use Rattle.row_change.specs.Steps.{LooksAt, Sees}
+use Rattle.view_reads.specs.Recording.{Recording, LookedFirst, read_part}
+use Rattle.view_reads.specs.RecordingLaws.{part_still_read}
+use Rattle.row_change.specs.Steps.{LooksAt}
 use Rattle.row_change.specs.WaysBack.{link_found, FitsLink, IsFirstLink}
 use Rattle.row_change.proofs.Backs.{is_equal}
 use Rattle.row_change.proofs.StepBasics.{looks_still}

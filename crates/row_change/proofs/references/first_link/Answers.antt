@@ -1,4 +1,4 @@
-use Rattle.std.proofs.Common.{sym, subst, Some, None, Option, Ok, Result}
+use Rattle.std.proofs.Common.{sym, subst, Option, Result}
 use Rattle.std.specs.Option.{option_map}
 use Rattle.std.specs.Borrow.{Bor}
 use Rattle.ident_rules.specs.declared.memory.NoMemory.{NoMemory}

@@ -1,10 +1,8 @@
-use Rattle.std.proofs.Common.{◌≡◌, ◌^◌, ◌-◌, ◌≤◌, ℕ, [], ◌∷◌, Option, Some, None, Bool, true, false, sym, ap, subst, ◌∙◌, arith}
-use Rattle.std.specs.Prelude.{not, is_some}
+use Rattle.std.proofs.Common.{◌^◌, ◌-◌, ℕ, [], ◌∷◌, Option, Some, None, sym, subst, ◌∙◌}
 use Rattle.ident_rules.specs.declared.key.Key.{Key}
 use Rattle.world_cells.specs.World.{cell_at}
-use Rattle.store_model.specs.Change.{is_referenced}
 use Rattle.store_model.specs.Reach.{is_back_to}
-use Rattle.row_change.specs.WaysBack.{IsFirstLink, FitsLink}
+use Rattle.row_change.specs.WaysBack.{IsFirstLink}
 use Rattle.row_change.proofs.StepBasics.{sees_before, sees_after}
 use Rattle.row_change.proofs.Referring.{none_first, other_first, own_first, is_apart, is_own, fits_top}
 use Rattle.row_change.proofs.references.is_referenced.Goals as goal
