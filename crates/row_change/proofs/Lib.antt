@@ -10,3 +10,6 @@ pub mod Limits
 pub mod LinkSteps
 pub mod NewIds
 pub mod Outcomes
+pub mod StepBasics
+pub mod Referring
+pub mod Removing
