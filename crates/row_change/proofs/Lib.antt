@@ -4,3 +4,4 @@ pub mod Rewriting
 pub mod StepLaws
 pub mod Judging
 pub mod Outcomes
+pub mod MemberSteps
