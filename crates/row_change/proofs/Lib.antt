@@ -10,6 +10,8 @@ pub mod Limits
 pub mod LinkSteps
 pub mod NewIds
 pub mod Outcomes
+pub mod RewriteOutcomes
 pub mod StepBasics
 pub mod Referring
 pub mod Removing
+pub mod MemberSteps

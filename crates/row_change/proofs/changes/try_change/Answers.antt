@@ -1,4 +1,3 @@
-use Rattle.std.proofs.Common.{◌≡◌}
 use Rattle.row_change.proofs.changes.try_change.Goals as goal
 
 pub returns-in-Create-clause-outcome : goal.returns-in-Create-clause-outcome
