@@ -1,5 +1,5 @@
 -- What is planned so far is planned, and is of a form that is built.
-use Rattle.std.specs.Prelude.{ℕ, ◌&&◌, Bool, true, false, not, if◌then◌else◌, List, [], ◌∷◌, codes, Option, Some, None, Result, Ok, Err, ⊤}
+use Rattle.std.specs.Prelude.{ℕ, ◌&&◌, Bool, true, false, not, if◌then◌else◌, List, [], ◌∷◌, codes, Some, Result, Ok, Err}
 use Rattle.std.specs.Option.{ok_or}
 use Rattle.std.specs.Str.{bytes_eq}
 use Rattle.std.proofs.Common.{◌≡◌, refl, subst, arith}
@@ -8,7 +8,6 @@ use Rattle.http_messages.specs.declared.messages.Reply.{Reply}
 use Rattle.resource_schema.specs.declared.schema.Schema.{Schema}
 use Rattle.resource_schema.specs.declared.targets.Target.{Target}
 use Rattle.resource_schema.specs.declared.targets.Target.TheVariants as target
-use Rattle.resource_schema.specs.Kinds.{is_many}
 use Rattle.task_forms.specs.declared.operations.Operation.TheVariants.{Remove}
 use Rattle.task_forms.specs.declared.tasks.ReplyForm.TheVariants as reply_form
 use Rattle.task_forms.specs.declared.tasks.Task.{Task}
@@ -21,7 +20,7 @@ use Rattle.request_model.specs.Words.{is_any, result_map}
 use Rattle.request_model.specs.Results.{◌>>=◌, ◌>>◌, err_if}
 use Rattle.request_model.specs.Targets.{split_target, target_of_path, allow_of, allows, need_of}
 use Rattle.request_model.specs.Negotiation.{content, acceptable}
-use Rattle.request_model.specs.Queries.{is_page, no_query, pairs_of, query_of, no_parameter}
+use Rattle.request_model.specs.Queries.{is_page, no_query, pairs_of, no_parameter}
 use Rattle.request_model.specs.Documents.{create_of, update_of, linkage}
 use Rattle.request_model.specs.Plans.{primary_data, change, by_path, links_operation, data_pointer, update_task, change_of, judged, is_fetch, is_list, none_or_err, fetch_of, change_without_query, task_of, or_reply, not_allowed, task_or_reply, plan_by, planned}
 use Rattle.request_tasks.specs.BuiltPlans.{is_built, task_so_far, task_or_reply_so_far, planned_so_far, ShowsOne, IsBuiltTask}

@@ -1,6 +1,6 @@
 -- A query without a byte has no pair, so nothing is asked.
-use Rattle.std.specs.Prelude.{ℕ, List, [], Option, None, Result, Ok}
-use Rattle.std.proofs.Common.{◌≡◌, refl, sym, subst}
+use Rattle.std.specs.Prelude.{[], Ok}
+use Rattle.std.proofs.Common.{◌≡◌, refl}
 use Rattle.form_urlencoded.specs.Form.{raw_pairs, split}
 use Rattle.resource_schema.specs.declared.schema.Schema.{Schema}
 use Rattle.resource_schema.specs.declared.targets.Target.{Target}

@@ -1,5 +1,5 @@
 -- Resource objects and linkages hold no float.
-use Rattle.std.proofs.Common.{◌≡◌, ℕ, ◌||◌, false, List, [], ◌∷◌, ◌++◌, map, Some, None, refl, sym, ap, ◌∙◌}
+use Rattle.std.proofs.Common.{◌≡◌, ℕ, ◌||◌, false, List, [], ◌∷◌, ◌++◌, map, Some, None, refl, ap, ◌∙◌}
 use Rattle.std.specs.Prelude.{pos, negsuc, codes}
 use Rattle.std.specs.List.{filter, zip}
 use Rattle.serde_json.specs.Data.{Data, string}

@@ -14,7 +14,6 @@ use Rattle.serde_json.specs.Data.{Data, Members, no_members, member}
 use Rattle.json_forms.specs.Order.{IsBefore, AreBehind, AreAscending}
 use Rattle.resource_schema.specs.SchemaRules.{are_rising}
 use Rattle.store_model.specs.Resource.{Fields, is_shown, members_of}
-use Rattle.resource_objects.specs.Objects.{put_if}
 use Rattle.resource_objects.proofs.Listed.{put_members, put_members-ascending}
 
 -- ---- field sets
@@ -75,21 +74,13 @@ module _ {A B : Type 0} (name : A → List ℕ) (f : A × B → Data) (p : A × 
   shown-begin xs xs' ys ys' ms rising first second none =
       (λ i. put_members (members_of (shown (first i) (second i))) (none i)) ∙ put_members-ascending _ (shown-ascend xs ys rising)
 
-  module _ (all ms : Members) (xs : List A) (ys : List B) (so_far : put_members (members_of (shown xs ys)) ms ≡ all) where
-    pub shown-more : (x : A) (more : List A) (y : B) (others : List B) (ns : Members) → xs ≡ x ∷ more → ys ≡ y ∷ others → ns ≡ put_if (p (x, y)) (name x) (f (x, y)) ms
-        → put_members (members_of (shown more others)) ns ≡ all
-    shown-more x more y others ns first second put =
-        ap (put_members (members_of (shown more others))) put
-        ∙ elim (p (x, y)) as (λ t. put_members (members_of (shown more others)) (put_if t (name x) (f (x, y)) ms) ≡ put_members (members_of (map (λ e. (name e.0, f e)) (cond t ((x, y) ∷ filter p (zip more others)) (filter p (zip more others))))) ms) [ true ↦ refl | false ↦ refl ]
-        ∙ (λ i. put_members (members_of (shown (sym first i) (sym second i))) ms)
-        ∙ so_far
+  pub shown-end : (all ms : Members) (xs : List A) (ys : List B) → put_members (members_of (shown xs ys)) ms ≡ all → (xs ≡ []) ⊎ (ys ≡ []) → ms ≡ all
+  shown-end all ms xs ys so_far none = sym (ap (λ s. put_members (members_of s) ms) (empty none)) ∙ so_far
+    where
+      no_second : (zs : List A) → shown zs [] ≡ []
+      no_second [] = refl
+      no_second (z ∷ zs) = refl
 
-    pub shown-end : (xs ≡ []) ⊎ (ys ≡ []) → ms ≡ all
-    shown-end none = sym (ap (λ s. put_members (members_of s) ms) (empty none)) ∙ so_far
-      where
-        no_second : (zs : List A) → shown zs [] ≡ []
-        no_second [] = refl
-        no_second (z ∷ zs) = refl
-        empty : (xs ≡ []) ⊎ (ys ≡ []) → shown xs ys ≡ []
-        empty (inl e) = ap (λ zs. shown zs ys) e
-        empty (inr e) = ap (shown xs) e ∙ no_second xs
+      empty : (xs ≡ []) ⊎ (ys ≡ []) → shown xs ys ≡ []
+      empty (inl e) = ap (λ zs. shown zs ys) e
+      empty (inr e) = ap (shown xs) e ∙ no_second xs

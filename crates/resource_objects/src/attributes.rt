@@ -1,7 +1,7 @@
 ghost use Rattle.std.specs.Prelude.{◌≡◌, IfOk, OnOk};
 ghost use Rattle.serde_json.specs.View.{members_view};
 ghost use Rattle.request_model.specs.Values.{value_data};
-ghost use Rattle.store_model.specs.Resource.{is_shown, members_of, attribute_members};
+ghost use Rattle.store_model.specs.Resource.{members_of, attribute_members};
 ghost use Rattle.resource_objects.specs.Objects.{put_if};
 
 use crate::fields::is_shown;

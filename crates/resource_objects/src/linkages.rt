@@ -31,12 +31,7 @@ fn identifiers(alloc: Global, schema: &Schema, kind: u32, ids: &[Id]) -> Result<
 }
 
 /// The linkage of a link to resources of a type ("Resource Linkage").
-pub fn linkage(
-    alloc: Global,
-    schema: &Schema,
-    target: u32,
-    link: &Link,
-) -> Result<Value, NoMemory>
+pub fn linkage(alloc: Global, schema: &Schema, target: u32, link: &Link) -> Result<Value, NoMemory>
     ensures { IfOk result (λ v. view v ≡ linkage schema.now target link.now) }
 {
     match link {

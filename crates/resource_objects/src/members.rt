@@ -1,5 +1,4 @@
 ghost use Rattle.std.specs.Prelude.{◌≡◌, IsTrue, OnOk};
-ghost use Rattle.resource_schema.specs.Kinds.{attributes_of, relationships_of};
 ghost use Rattle.resource_schema.specs.SchemaRules.{are_rising};
 ghost use Rattle.serde_json.specs.View.{members_view};
 ghost use Rattle.resource_objects.specs.Objects.{put_unless_none, attribute_names, relationship_names};

@@ -26,12 +26,7 @@ pub fn resource_path(alloc: Global, schema: &Schema, key: &Key) -> Result<Text, 
 }
 
 /// The path of what a relationship leads to, `/TYPE/ID/REL` ("Related Resource Links"). Its one error is want of memory.
-pub fn related_path(
-    alloc: Global,
-    schema: &Schema,
-    key: &Key,
-    rel: &str,
-) -> Result<Text, NoMemory>
+pub fn related_path(alloc: Global, schema: &Schema, key: &Key, rel: &str) -> Result<Text, NoMemory>
     ensures { IfOk result (λ t. t ≡ related_path schema.now key.now rel.now) }
 {
     let mut path = resource_path(alloc, schema, key)?.into_string();

@@ -1,6 +1,6 @@
 ghost use Rattle.std.specs.Prelude.{◌≡◌, IfOk, OnOk};
 ghost use Rattle.serde_json.specs.View.{view, members_view};
-ghost use Rattle.store_model.specs.Resource.{is_shown, members_of, relationship_object, relationship_members};
+ghost use Rattle.store_model.specs.Resource.{members_of, relationship_object, relationship_members};
 ghost use Rattle.resource_objects.specs.Objects.{put_if, relationship_parts};
 
 use crate::fields::is_shown;
@@ -76,7 +76,15 @@ pub fn relationship_members(
     let relationships = schema.relationships_of(kind);
     for (relationship, link) in relationships.iter().zip(row.links.as_slice()) {
         let shown = is_shown(fields, kind, relationship.name.as_str());
-        match put_relationship(&mut members, alloc, schema, &row.key, shown, relationship, link) {
+        match put_relationship(
+            &mut members,
+            alloc,
+            schema,
+            &row.key,
+            shown,
+            relationship,
+            link,
+        ) {
             Ok(()) => {}
             Err(NoMemory) => return Err(NoMemory),
         }

@@ -38,7 +38,12 @@ fn resource_parts(
     put(&mut members, alloc, "id", Value::try_from_str(alloc, id)?)?;
     put(&mut members, alloc, "links", links)?;
     put_unless_empty(&mut members, alloc, "relationships", relationships)?;
-    put(&mut members, alloc, "type", Value::try_from_str(alloc, kind)?)?;
+    put(
+        &mut members,
+        alloc,
+        "type",
+        Value::try_from_str(alloc, kind)?,
+    )?;
     Ok(Value::Object(members))
 }
 

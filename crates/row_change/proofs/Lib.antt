@@ -1,6 +1,12 @@
 pub mod Backs
 pub mod Leading
 pub mod Rewriting
-pub mod StepBasics
 pub mod Referring
 pub mod Removing
+pub mod StepLaws
+pub mod Finding
+pub mod Targets
+pub mod Theres
+pub mod Judging
+pub mod Limits
+pub mod LinkSteps

@@ -1,4 +1,3 @@
-use Rattle.std.proofs.Common.{refl}
 use Rattle.request_tasks.proofs.NoQuery.{no_pairs}
 use Rattle.request_tasks.proofs.changes.change_without_query.Goals as goal
 

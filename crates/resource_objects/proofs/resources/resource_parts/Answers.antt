@@ -1,6 +1,6 @@
-use Rattle.std.proofs.Common.{◌∙◌, ap, sym}
+use Rattle.std.proofs.Common.{◌∙◌, ap}
 use Rattle.std.specs.Prelude.{codes}
-use Rattle.serde_json.specs.Data.{object, string, put}
+use Rattle.serde_json.specs.Data.{object, put}
 use Rattle.serde_json.specs.View.{members_view}
 use Rattle.serde_json.proofs.Views.{view-Object}
 use Rattle.resource_objects.specs.Objects.{put_unless_none}
