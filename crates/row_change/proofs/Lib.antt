@@ -1,6 +1,8 @@
 pub mod Backs
 pub mod Leading
 pub mod Rewriting
+pub mod Referring
+pub mod Removing
 pub mod StepLaws
 pub mod Finding
 pub mod Targets
@@ -11,7 +13,4 @@ pub mod LinkSteps
 pub mod NewIds
 pub mod Outcomes
 pub mod RewriteOutcomes
-pub mod StepBasics
-pub mod Referring
-pub mod Removing
 pub mod MemberSteps

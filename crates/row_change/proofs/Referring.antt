@@ -37,7 +37,7 @@ use Rattle.view_reads.specs.RecordingLaws.{part_still_read}
 use Rattle.row_change.specs.Steps.{LooksAt}
 use Rattle.row_change.specs.WaysBack.{link_found, FitsLink, IsFirstLink}
 use Rattle.row_change.proofs.Backs.{is_equal}
-use Rattle.row_change.proofs.StepBasics.{looks_still}
+use Rattle.row_change.proofs.StepLaws.{looks_still}
 
 -- ---- tests
 

@@ -23,7 +23,7 @@ use Rattle.row_change.specs.declared.stops.Stop.{Stop}
 use Rattle.row_change.specs.declared.stops.Stop.TheVariants.{Refused, NoMemory}
 use Rattle.row_change.specs.Trial.{StandsBehind, IsOutcome, TellsChange, StaysInReach, read_of}
 use Rattle.row_change.specs.Steps.{LooksAt, Sees, Judges, LeavesReads, LeadsOn}
-use Rattle.row_change.proofs.StepBasics.{sees_before, sees_after}
+use Rattle.row_change.proofs.StepLaws.{sees_before, sees_after}
 
 -- ---- the row that is named
 
