@@ -1,4 +1,4 @@
-use Rattle.std.proofs.Common.{◌≡◌, refl, sym, subst, ◌∙◌, List, Some, None, Err, false}
+use Rattle.std.proofs.Common.{◌≡◌, refl, sym, subst, ◌∙◌, List, None, Err, false}
 use Rattle.resource_schema.specs.Kinds.{relationships_of}
 use Rattle.world_cells.specs.declared.sets.ReadSet.{ReadSet}
 use Rattle.world_cells.specs.declared.sets.Written.{Written}
