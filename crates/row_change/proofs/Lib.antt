@@ -9,4 +9,4 @@ pub mod Judging
 pub mod Limits
 pub mod LinkSteps
 pub mod NewIds
-pub mod Outcomes
+pub mod CreateOutcomes
