@@ -11,6 +11,6 @@ pub mod Judging
 pub mod Limits
 pub mod LinkSteps
 pub mod NewIds
-pub mod Outcomes
 pub mod RewriteOutcomes
 pub mod MemberSteps
+pub mod CreateOutcomes

@@ -1,6 +1,5 @@
 -- The id of a new row, and what is written with the row.
 use Rattle.std.specs.Prelude.{◌≡◌, ℕ, ◌+◌, ◌==◌, ◌&&◌, Bool, List, [], ◌∷◌, codes, is_some, is_none, Option, Some, None}
-use Rattle.ident_rules.specs.declared.key.Key.{Key}
 use Rattle.world_cells.specs.declared.keys.CellKey.{CellKey}
 use Rattle.world_cells.specs.World.{World, has_row, next_id}
 use Rattle.error_objects.specs.declared.codes.Code.TheVariants as code

@@ -1,5 +1,4 @@
-ghost use Rattle.std.specs.Prelude.{◌≡◌, ◌≤◌, if◌then◌else◌, IfOk, OnOk, IsFalse, [], ◌∷◌, ◌++◌, Some, None, length, codes};
-ghost use Rattle.ident_rules.specs.declared.key.Key.{Key as KeyValue};
+ghost use Rattle.std.specs.Prelude.{◌≡◌, ◌≤◌, ℕ, List, if◌then◌else◌, IfOk, OnOk, IsFalse, [], ◌∷◌, ◌++◌, Some, None, length};
 ghost use Rattle.resource_schema.specs.declared.schema.Schema.{Schema as Types};
 ghost use Rattle.resource_schema.specs.Kinds.{relationships_of};
 ghost use Rattle.task_forms.specs.declared.operations.Operation.TheVariants as operation;
@@ -8,7 +7,7 @@ ghost use Rattle.world_cells.specs.World.{World, row_at, cell_at};
 ghost use Rattle.world_cells.specs.Reads.{Leads};
 ghost use Rattle.store_model.specs.Change.{is_bound, bind, empty_links, set_links, refuse_links, with_row};
 ghost use Rattle.store_model.specs.Run.{refusal_under};
-ghost use Rattle.store_model.specs.Reach.{is_row_in, is_counter_of, linked_keys};
+ghost use Rattle.store_model.specs.Reach.{is_row_in, linked_keys};
 ghost use Rattle.view_reads.specs.Recording.{Follows};
 ghost use Rattle.row_change.specs.Trial.{TellsChange, StaysInReach, read_of};
 ghost use Rattle.row_change.specs.Steps.{LooksAt, Sees, Judges, LeavesReads, LeadsOn, is_there};
@@ -29,6 +28,9 @@ use view_reads::{Recorder, View};
 use world_cells::{Cell, CellKey, Link, Row};
 
 /// Creates a resource (JSON:API 1.1, "Creating Resources"). The key is that of the new row.
+///
+/// It is refused, in this order, where its local id is bound already, where a row has the client's id, where no id is left for
+/// the server to give, and where a linkage is refused. A link may lead to the new row itself.
 pub fn create<V: View>(
     alloc: Global,
     schema: &Schema,
@@ -56,9 +58,7 @@ pub fn create<V: View>(
     };
     bind(alloc, lids, kind, lid, id)?;
     let key = Key { kind, id };
-    let row = match new_row(
-        alloc, schema, &key, values, links, at, lids, recorder, work,
-    ) {
+    let row = match new_row(alloc, schema, &key, values, links, at, lids, recorder, work) {
         Ok(row) => row,
         Err(stop) => return Err(stop),
     };
@@ -101,7 +101,7 @@ fn new_id<V: View>(
 {
     match id {
         Some(id) => client_id(alloc, kind, id, at, recorder, work),
-        None => server_id(at, kind, recorder, work),
+        None => server_id(kind, recorder, work),
     }
 }
 
@@ -130,13 +130,12 @@ const LAST_NEXT: u64 = 9_223_372_036_854_775_807;
 
 /// The id that the server gives, and the one after it.
 fn server_id<V: View>(
-    at: &str,
     kind: u32,
     recorder: &mut Recorder<V>,
     work: &mut Work,
 ) -> Result<(Id, Option<u64>), Stop>
     ensures looks { LooksAt (is_looked_for kind None) recorder.old recorder.new }
-    ensures sees { (schema : Types) → Sees schema V.cells recorder.old recorder.new (λ now. Judges at.now (refuse_id now kind None) (IsNewId now kind None) result) }
+    ensures sees { (schema : Types) (at : List ℕ) → Sees schema V.cells recorder.old recorder.new (λ now. Judges at (refuse_id now kind None) (IsNewId now kind None) result) }
 {
     let number = next_number(kind, recorder, work)?;
     if number >= LAST_NEXT {

@@ -1,4 +1,4 @@
-use Rattle.std.proofs.Common.{◌≡◌, refl, sym, subst, ◌∙◌, List, Some, None, Err, false}
+use Rattle.std.proofs.Common.{◌≡◌, refl, sym, subst, ◌∙◌, List, None, Err, false}
 use Rattle.resource_schema.specs.Kinds.{relationships_of}
 use Rattle.world_cells.specs.declared.sets.ReadSet.{ReadSet}
 use Rattle.world_cells.specs.declared.sets.Written.{Written}
@@ -13,7 +13,7 @@ use Rattle.row_change.specs.Trial.{StandsBehind}
 use Rattle.row_change.specs.Steps.{Judges, is_there}
 use Rattle.row_change.specs.Creating.{refuse_id, is_looked_for, IsNewId}
 use Rattle.row_change.proofs.StepLaws.{sees_before, sees_after}
-use Rattle.row_change.proofs.Outcomes.{told_stop, refused_id, by_links, told_created, reads_links}
+use Rattle.row_change.proofs.CreateOutcomes.{told_stop, refused_id, by_links, told_created, reads_links}
 use Rattle.row_change.proofs.creates.create.Goals as goal
 
 -- the id is refused

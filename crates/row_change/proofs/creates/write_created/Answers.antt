@@ -1,5 +1,4 @@
 use Rattle.std.proofs.lemmas.Result.{on_ok_weaker}
-use Rattle.world_cells.specs.World.{World}
 use Rattle.store_model.specs.Change.{with_row}
 use Rattle.row_change.proofs.creates.write_created.Goals as goal
 

@@ -1,6 +1,6 @@
 -- From what was judged to the outcome of an operation, and from what was looked at to its reach.
-use Rattle.std.proofs.Common.{◌≡◌, ℕ, ◌≤◌, List, [], ◌∷◌, ◌++◌, Bool, true, false, refl, sym, ap, subst, ◌∙◌, Option, Some, None, Result, Ok, Err, length, rules}
-use Rattle.std.specs.Prelude.{IsTrue, IsFalse, ◌||◌, ◌+◌, is_some, if◌then◌else◌, map, slice_set, get_or, codes}
+use Rattle.std.proofs.Common.{◌≡◌, ℕ, ◌≤◌, List, [], ◌∷◌, Bool, true, false, refl, sym, ap, subst, ◌∙◌, Option, Some, None, Result, Ok, Err, length, rules}
+use Rattle.std.specs.Prelude.{IsTrue, ◌||◌, ◌+◌, is_some, if◌then◌else◌, slice_set, get_or, codes}
 use Rattle.std.proofs.lemmas.List.{length-map}
 use Rattle.ident_rules.specs.declared.key.Key.{Key}
 use Rattle.resource_schema.specs.declared.schema.Schema.{Schema}
@@ -21,16 +21,16 @@ use Rattle.error_objects.specs.declared.refusals.Refusal.{Refusal}
 use Rattle.error_objects.specs.declared.refusals.Read.TheVariants as read
 use Rattle.error_objects.specs.Refusals.{at_pointer}
 use Rattle.store_model.specs.Valid.{IsValid}
-use Rattle.store_model.specs.Change.{Lids, Changed, first_of, when, refused, done, outcome, apply, is_bound, bind, created_id, created_key, refuse_links, set_links, empty_links, with_row, with_next, link_of, append_new, member_ids}
+use Rattle.store_model.specs.Change.{Lids, Changed, first_of, refused, done, outcome, apply, is_bound, bind, created_id, created_key, refuse_links, set_links, empty_links, with_row, with_next, link_of, append_new, member_ids}
 use Rattle.store_model.specs.Run.{refusal_under}
-use Rattle.store_model.specs.Reach.{is_row_in, is_counter_of, linked_keys, reach_operation}
+use Rattle.store_model.specs.Reach.{is_row_in, linked_keys, reach_operation}
 use Rattle.view_reads.specs.Recording.{Recording}
 use Rattle.row_change.specs.declared.stops.Stop.{Stop}
 use Rattle.row_change.specs.declared.stops.Stop.TheVariants.{Refused, NoMemory}
 use Rattle.row_change.specs.declared.stops.There.TheVariants as there
 use Rattle.row_change.specs.Trial.{StandsBehind, IsOutcome, StaysInReach, read_of}
 use Rattle.row_change.specs.Steps.{LooksAt, Sees, Judges, LeadsOn, is_there}
-use Rattle.row_change.specs.Creating.{refuse_id, is_looked_for, next_after, IsNewId, with_counter}
+use Rattle.row_change.specs.Creating.{refuse_id, is_looked_for, next_after, with_counter}
 use Rattle.row_change.proofs.StepLaws.{row_in_left, row_in_right}
 use Rattle.row_change.proofs.NewIds.{new_free}
 
