@@ -9,6 +9,8 @@ mod members;
 mod references;
 mod removes;
 mod stops;
+#[cfg(test)]
+mod tests;
 mod updates;
 mod writes;
 

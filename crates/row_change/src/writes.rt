@@ -1,9 +1,8 @@
-ghost use Rattle.std.specs.Prelude.{◌≡◌, ◌≢◌, ◌≤◌, ◌<◌, OnOk, Some, None, ⊤, [], option_copied, length, take, get_or};
-ghost use Rattle.resource_schema.specs.declared.schema.Schema.{Schema as Types};
+ghost use Rattle.std.specs.Prelude.{◌≡◌, ◌≢◌, ◌≤◌, ◌<◌, OnOk, Some, None, [], option_copied, length, take, get_or};
 ghost use Rattle.resource_schema.specs.Kinds.{relationships_of};
 ghost use Rattle.world_cells.specs.declared.cells.Cell.TheVariants as cell;
 ghost use Rattle.world_cells.specs.World.{row_at};
-ghost use Rattle.store_model.specs.Change.{with_row, without_row, with_next};
+ghost use Rattle.store_model.specs.Change.{with_row, without_row};
 ghost use Rattle.row_change.specs.Steps.{LeavesReads, LeadsOn};
 ghost use Rattle.row_change.specs.WritesBacks.{WritesBacks, TurnsBacks, RewritesLinks, ids_at, back_from, links_of};
 
@@ -45,14 +44,6 @@ pub fn remove_row<V: View>(
 {
     rewrite_links(schema, &old.key, old.links.as_slice(), &[], recorder)?;
     recorder.remove(CellKey::Row(old.key))
-}
-
-/// Writes the next id of a type. Its one error is want of memory, after which nothing more is written.
-pub fn put_next<V: View>(kind: u32, number: u64, recorder: &mut Recorder<V>) -> Result<(), NoMemory>
-    ensures leaves { LeavesReads recorder.old recorder.new }
-    ensures leads { OnOk result ((schema : Types) → LeadsOn schema (λ now. ⊤) (λ now. with_next now kind number) recorder.old.writes recorder.new.writes) }
-{
-    recorder.put(CellKey::Counter(kind), Cell::Counter(number))
 }
 
 /// The links of a row that may be there.
