@@ -1,14 +1,13 @@
 -- A desk of one connection that answers one task more.
-use Rattle.std.proofs.Common.{◌≡◌, List, [], ◌∷◌, ◌++◌, sym, ap, ◌∙◌, subst, append-nil}
+use Rattle.std.proofs.Common.{List, [], ◌∷◌, ◌++◌, sym, ap, ◌∙◌, subst, append-nil}
 use Rattle.http_messages.specs.declared.messages.Reply.{Reply}
 use Rattle.world_cells.specs.World.{World}
-use Rattle.world_cells.specs.declared.keys.CellKey.{CellKey}
 use Rattle.world_cells.specs.Reads.{Cells}
 use Rattle.resource_schema.specs.declared.schema.Schema.{Schema}
 use Rattle.task_forms.specs.declared.tasks.Task.{Task}
 use Rattle.task_forms.specs.declared.tasks.Entry.{Entry}
-use Rattle.task_forms.specs.Meaning.{Meaning, IsLawful, AreAnswers, IsLegal, world_after}
-use Rattle.task_forms.specs.Desks.{Joins, Refuses}
+use Rattle.task_forms.specs.Meaning.{IsLawful, AreAnswers, world_after}
+use Rattle.task_forms.specs.Desks.{Joins}
 use Rattle.history_model.specs.Agreement.{one_more}
 use Rattle.history_model.specs.CommitLaws.{after_more}
 use Rattle.store_model.specs.StoreMeaning.{meaning_of}

@@ -1,6 +1,6 @@
 -- What a tried operation says of the world whose cells the view has.
-use Rattle.std.proofs.Common.{◌≡◌, ℕ, Option, Some, None, List, [], ◌∷◌, Ok, Err, Result, refl, ap, sym, subst, ◌∙◌}
-use Rattle.std.specs.Prelude.{unwrap_or, option_map}
+use Rattle.std.proofs.Common.{◌≡◌, Option, Some, None, List, [], ◌∷◌, Ok, Err, Result, refl, ap, sym, ◌∙◌}
+use Rattle.std.specs.Prelude.{unwrap_or}
 use Rattle.std.specs.Option.{option_and_then}
 use Rattle.std.specs.FinMap.Entries.{find}
 use Rattle.ident_rules.specs.declared.key.Key.{Key}
@@ -11,7 +11,6 @@ use Rattle.error_objects.specs.declared.refusals.Read.TheVariants as read
 use Rattle.error_objects.specs.ErrorReply.{error_reply}
 use Rattle.resource_schema.specs.declared.schema.Schema.{Schema}
 use Rattle.world_cells.specs.declared.rows.Row.{Row}
-use Rattle.world_cells.specs.declared.keys.CellKey.{CellKey}
 use Rattle.world_cells.specs.declared.keys.CellKey.TheVariants as cell_key
 use Rattle.world_cells.specs.declared.sets.Written.{Written}
 use Rattle.world_cells.specs.World.{World, row_at, cell_at}
@@ -23,7 +22,7 @@ use Rattle.task_forms.specs.declared.tasks.ReplyForm.TheVariants as reply_form
 use Rattle.task_forms.specs.declared.tasks.Task.TheVariants.{Change}
 use Rattle.store_model.specs.Valid.{IsValid}
 use Rattle.store_model.specs.Change.{Lids, Changed, apply}
-use Rattle.store_model.specs.Run.{refusal_under, operation_pointer, and_then, run}
+use Rattle.store_model.specs.Run.{refusal_under, operation_pointer}
 use Rattle.store_model.specs.Answer.{answer, effect, done_reply}
 use Rattle.view_reads.specs.Recording.{Recording}
 use Rattle.row_change.specs.Trial.{IsOutcome, TellsChange}

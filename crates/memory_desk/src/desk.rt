@@ -58,7 +58,13 @@ impl MemoryDesk {
         match task {
             Task::Fetch(fetch) => {
                 let mut work = Work::new();
-                fetch_reply(self.alloc, &self.schema, &fetch.target, &self.cells, &mut work)
+                fetch_reply(
+                    self.alloc,
+                    &self.schema,
+                    &fetch.target,
+                    &self.cells,
+                    &mut work,
+                )
             }
             Task::Change { operations, form } => match operations.as_slice() {
                 [operation] => do_operation(

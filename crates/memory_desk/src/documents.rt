@@ -24,7 +24,7 @@ use task_forms::{Page, Query};
 use world_cells::{Link, Row};
 
 /// A query that asks for nothing.
-fn no_query(alloc: Global) -> Query
+pub fn no_query(alloc: Global) -> Query
     ensures { result ≡ no_query }
 {
     Query {

@@ -44,13 +44,7 @@ fn linkage_reply<V: View>(
         return not_found(alloc);
     };
     match link_of(row, rel) {
-        Some(link) => Ok(ok_reply(linkage_text(
-            alloc,
-            schema,
-            row.key.kind,
-            rel,
-            link,
-        )?)),
+        Some(link) => Ok(ok_reply(linkage_text(alloc, schema, row.key.kind, rel, link)?)),
         None => Ok(ok_reply(null_text(alloc)?)),
     }
 }

@@ -7,5 +7,7 @@ mod documents;
 mod fetches;
 mod replies;
 mod rows;
+#[cfg(test)]
+mod tests;
 
 pub use desk::MemoryDesk;

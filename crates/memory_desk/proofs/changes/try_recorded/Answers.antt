@@ -1,4 +1,4 @@
-use Rattle.std.proofs.Common.{◌≡◌, ap, sym, ◌∙◌}
+use Rattle.std.proofs.Common.{ap}
 use Rattle.std.proofs.lemmas.Result.{IfOk-weaker}
 use Rattle.memory_desk.proofs.Tried.{tried-done, tried-refused}
 use Rattle.memory_desk.proofs.changes.try_recorded.Goals as goal

@@ -1,4 +1,4 @@
-use Rattle.std.proofs.Common.{◌≡◌, ap, sym, ◌∙◌}
+use Rattle.std.proofs.Common.{ap, sym, ◌∙◌}
 use Rattle.world_cells.specs.World.{row_at}
 use Rattle.memory_desk.specs.Rows.{linked_id}
 use Rattle.memory_desk.proofs.Fetched.{shows, related-null, related-one}
