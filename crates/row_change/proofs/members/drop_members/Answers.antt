@@ -7,7 +7,7 @@ use Rattle.store_model.specs.Change.{member_ids, on_link}
 use Rattle.store_model.specs.Reach.{is_row_in, target_keys, member_keys}
 use Rattle.row_change.specs.declared.updates.Rewrite.{Rewrite}
 use Rattle.row_change.specs.Rewrites.{IsRewrite}
-use Rattle.row_change.proofs.RowOutcomes.{stopped, rewritten}
+use Rattle.row_change.proofs.RewriteOutcomes.{stopped, rewritten}
 use Rattle.row_change.proofs.MemberSteps.{on_link_length}
 use Rattle.row_change.proofs.members.drop_members.Goals as goal
 

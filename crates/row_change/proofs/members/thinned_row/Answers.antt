@@ -13,7 +13,7 @@ use Rattle.row_change.specs.Steps.{Judges, is_there}
 use Rattle.row_change.specs.Rewrites.{IsRewrite}
 use Rattle.row_change.proofs.StepLaws.{sees_before, sees_after}
 use Rattle.row_change.proofs.Judging.{judges_passed}
-use Rattle.row_change.proofs.RowOutcomes.{first_told, then_told}
+use Rattle.row_change.proofs.RewriteOutcomes.{first_told, then_told}
 use Rattle.row_change.proofs.MemberSteps.{judged_members}
 use Rattle.row_change.proofs.members.thinned_row.Goals as goal
 

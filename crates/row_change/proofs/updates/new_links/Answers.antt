@@ -2,7 +2,7 @@ use Rattle.std.proofs.Common.{ap}
 use Rattle.world_cells.specs.World.{has_row}
 use Rattle.world_cells.specs.declared.rows.Row.{Row}
 use Rattle.task_forms.specs.Fit.{kind_of}
-use Rattle.row_change.proofs.RowOutcomes.{judged_links}
+use Rattle.row_change.proofs.RewriteOutcomes.{judged_links}
 use Rattle.row_change.proofs.updates.new_links.Goals as goal
 
 pub returns-clause-sees : goal.returns-clause-sees

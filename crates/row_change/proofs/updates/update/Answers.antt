@@ -4,7 +4,7 @@ use Rattle.store_model.specs.Change.{set_values, set_links}
 use Rattle.store_model.specs.Reach.{is_row_in, target_keys, linked_keys}
 use Rattle.row_change.specs.declared.updates.Rewrite.{Rewrite}
 use Rattle.row_change.specs.Rewrites.{IsRewrite}
-use Rattle.row_change.proofs.RowOutcomes.{stopped, rewritten, set_links_length}
+use Rattle.row_change.proofs.RewriteOutcomes.{stopped, rewritten, set_links_length}
 use Rattle.row_change.proofs.updates.update.Goals as goal
 
 pub returns-in_err-rewrite-clause-outcome : goal.returns-in_err-rewrite-clause-outcome

@@ -13,7 +13,7 @@ use Rattle.row_change.specs.Steps.{Judges}
 use Rattle.row_change.specs.Rewrites.{IsRewrite}
 use Rattle.row_change.proofs.StepLaws.{sees_before, sees_after}
 use Rattle.row_change.proofs.Judging.{judges_passed}
-use Rattle.row_change.proofs.RowOutcomes.{first_told, then_told, first_alone}
+use Rattle.row_change.proofs.RewriteOutcomes.{first_told, then_told, first_alone}
 use Rattle.row_change.proofs.updates.updated_row.Goals as goal
 
 pub returns-in_err-old-clause-sees : goal.returns-in_err-old-clause-sees
