@@ -4,11 +4,19 @@
 //! the types of a schema file, and a store of its own. See the README for what is built.
 #![tactic(auto)]
 
+#[cfg(test)]
+mod bad_messages;
 mod connections;
 mod notices;
+#[cfg(test)]
+mod orders;
 mod pipes;
 #[cfg(test)]
-mod refusals;
+mod relationships;
+#[cfg(test)]
+mod resources;
+#[cfg(test)]
+mod rows;
 mod schemas;
 #[cfg(test)]
 mod tests;
