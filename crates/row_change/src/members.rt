@@ -12,7 +12,7 @@ ghost use Rattle.row_change.specs.Steps.{LooksAt, Sees, Judges};
 ghost use Rattle.row_change.specs.Rewrites.{IsRewrite};
 
 use crate::finds::find_target;
-use crate::linkages::{join_members, read_members};
+use crate::linkages::{join_members, read_members, set_link};
 use crate::stops::{Stop, There};
 use crate::updates::Rewrite;
 use crate::writes::put_row;
@@ -219,25 +219,4 @@ fn with_ids(alloc: Global, old: &Row, rel: u32, ids: List<Id>) -> Result<Row, No
         values,
         links: List::from_vec(links),
     })
-}
-
-/// Sets the ids of a link, of whichever kind it is, if there is one.
-fn set_link(links: &mut Vec<Link>, rel: u32, ids: List<Id>)
-    ensures { links.new.items ≡ slice_set links.old.items rel (link_of (get_or links.old.items rel no_link) ids) }
-{
-    let rel = rel as usize;
-    if rel < links.len() {
-        let new = link_of(&links[rel], ids);
-        links[rel] = new;
-    }
-}
-
-/// A link to these ids, of the same kind as an old one.
-fn link_of(old: &Link, ids: List<Id>) -> Link
-    ensures { result ≡ link_of old.now ids }
-{
-    match old {
-        Link::One(_) => Link::One(ids.as_slice().first().copied()),
-        Link::Many(_) => Link::Many(ids),
-    }
 }
