@@ -47,11 +47,8 @@ for kind in proved tested unbuilt; do
     count=$(grep -cE "\\| $kind( |\$)" "$made")
     echo "rules: $kind $count"
 done
-{
-    echo
-    echo "Trusted edge: the adapters of \`outer_ends\` ($(cat crates/outer_ends/src/files.rt crates/outer_ends/src/streams.rt | wc -l) lines) and"
-    echo "\`main\` ($(wc -l <crates/jsonapid/src/main.rt) lines), and the definitions in the \`specs\` of the crates."
-} >>"$made"
+adapters=$(cat crates/outer_ends/src/files.rt crates/outer_ends/src/streams.rt | wc -l)
+echo "rules: trusted edge: adapters $adapters lines, main $(wc -l <crates/jsonapid/src/main.rt) lines, and the definitions in specs/"
 if [ "${1:-}" = --write ]; then
     cp "$made" docs/RULES.md
 elif ! cmp -s "$made" docs/RULES.md; then

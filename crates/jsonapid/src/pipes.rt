@@ -84,12 +84,7 @@ fn refuse_schema<K: Sink>(place: &str, why: Why, sink: &mut K) -> u8
 }
 
 /// Serves one connection on a store of its own over a schema.
-fn pipe_on<S: Source, K: Sink>(
-    alloc: Global,
-    schema: &Schema,
-    source: &mut S,
-    sink: &mut K,
-) -> u8
+fn pipe_on<S: Source, K: Sink>(alloc: Global, schema: &Schema, source: &mut S, sink: &mut K) -> u8
     ensures { Pipes schema.now (S.faults source.old) (S.faults source.new) (K.faults sink.old) (K.faults sink.new) (S.taken source.old) (S.taken source.new) (S.left source.old) (S.left source.new) (K.written sink.old) (K.written sink.new) result }
 {
     match schema.copy(alloc) {

@@ -1,4 +1,4 @@
-use Rattle.std.proofs.Common.{◌≡◌, ℕ, List, refl, sym, subst}
+use Rattle.std.proofs.Common.{ℕ, List, refl, sym, subst}
 use Rattle.jsonapid.specs.declared.schemas.SchemaRead.{SchemaRead}
 use Rattle.jsonapid.specs.Pipes.{schema_line, Refuses, PipesRead}
 use Rattle.jsonapid.proofs.pipes.pipe_read.Goals as goal
