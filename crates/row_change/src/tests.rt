@@ -84,8 +84,8 @@ fn key(kind: u32, number: u64) -> Key {
 
 fn members_of(alloc: Global, rel: u32, numbers: &[u64]) -> Result<List<Member>, NoMemory> {
     let mut members = Vec::new(alloc);
+    let mut place: u32 = 0;
     for number in numbers {
-        let place = members.len() as u32;
         let (kind, index) = if rel == AUTHOR {
             (PEOPLE, None)
         } else {
@@ -93,6 +93,7 @@ fn members_of(alloc: Global, rel: u32, numbers: &[u64]) -> Result<List<Member>, 
         };
         let named = Named::Id(key(kind, *number));
         members.push(Member { named, index })?;
+        place = place.wrapping_add(1);
     }
     Ok(List::from_vec(members))
 }
