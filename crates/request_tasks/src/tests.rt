@@ -1,6 +1,6 @@
 ghost use Rattle.std.specs.Prelude.{◌≡◌, codes};
 
-use crate::RequestTasks;
+use crate::{LentTasks, RequestTasks};
 use http_messages::{Allow, Field, Message, Reply};
 use ident_rules::{Bytes, List, Name, NoMemory, Text, read_name};
 use resource_schema::{Kind, Relationship, Schema};
@@ -129,9 +129,9 @@ fn words_of(alloc: Global, plan: &Plan) -> Result<String, AllocError> {
 }
 
 // What is planned for a message, in words.
-fn planned(
+fn planned<P: Planner>(
     alloc: Global,
-    tasks: &RequestTasks,
+    tasks: &P,
     request: &str,
     fields: &[(&str, &str)],
     body: &str,
@@ -142,14 +142,16 @@ fn planned(
     Ok(words_of(alloc, &plan)?)
 }
 
-fn tasks_of_notes(alloc: Global) -> Result<RequestTasks, NoMemory> {
-    RequestTasks::new(alloc, &Schema::notes(alloc)?)
+fn notes(alloc: Global) -> Result<Schema, NoMemory> {
+    Schema::notes(alloc)
 }
 
 #[test]
 fn plans_requests_of_notes(rt: HostRuntime) -> Result<(), Fail> {
     let alloc = rt.alloc();
-    let tasks = tasks_of_notes(alloc)?;
+    let schema = notes(alloc)?;
+    let tasks = RequestTasks::new(alloc, &schema)?;
+    let lent_tasks = LentTasks { schema: &schema };
     let new = "{\"data\":{\"type\":\"notes\",\"attributes\":{\"text\":\"hello\"}}}";
     let first = "{\"data\":{\"type\":\"notes\",\"id\":\"1\",\"attributes\":{\"text\":\"hello\"}}}";
     let rows: [(&str, &[(&str, &str)], &str, &str); 26] = [
@@ -208,6 +210,8 @@ fn plans_requests_of_notes(rt: HostRuntime) -> Result<(), Fail> {
     for (request, fields, body, want) in rows {
         let answer = planned(alloc, &tasks, request, fields, body)?;
         assert_eq!(rt; answer.as_str(), want, "{request}");
+        let lent_answer = planned(alloc, &lent_tasks, request, fields, body)?;
+        assert_eq!(rt; lent_answer.as_str(), want, "{request}, lent");
     }
     Ok(())
 }
