@@ -319,7 +319,7 @@ const LONG_FRONT: &[u8] =
 
 const LONG_END: &[u8] = b"\"},\"id\":\"1\",\"links\":{\"self\":\"/notes/1\"},\"type\":\"notes\"}}";
 
-/// A body of text over notes: its status, what was written, and what is to be written.
+/// Sends a request over notes with so many `x` within: the status, and whether the reply is the wanted one.
 fn sent(
     alloc: Global,
     request: (&[u8], usize, &[u8]),
