@@ -1,6 +1,3 @@
-pub mod Alone
-pub mod NotePlans
-pub mod NoteRows
-pub mod NoteTasks
 pub mod Notices
+pub mod SchemaFiles
 pub mod Pipes

@@ -4,7 +4,8 @@ use Rattle.std.specs.Str.{bytes_eq}
 
 abbrev pub help_text : List ℕ
 help_text =
-    codes "usage: jsonapid pipe" ++ 10 ∷ 10 ∷ codes "Serves one connection of HTTP/1.1 from standard input to standard output, over a store of notes that begins empty."
+    codes "usage: jsonapid pipe [PATH]" ++ 10 ∷ 10
+    ∷ codes "Serves one connection of HTTP/1.1 from standard input to standard output, over a store that begins empty: of notes, or of the types of the schema file PATH."
     ++ 10 ∷ []
 
 abbrev pub version_text : List ℕ

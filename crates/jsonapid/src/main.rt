@@ -1,20 +1,23 @@
 //! jsonapid: a server of typed, linked resources by JSON:API 1.1.
 //!
-//! Today it has the command `pipe`: one connection from standard input to standard output, over the built-in type of
-//! notes and a store of its own. See the README for what is built.
+//! Today it has the command `pipe`: one connection from standard input to standard output, over the built-in type of notes or
+//! the types of a schema file, and a store of its own. See the README for what is built.
 #![tactic(auto)]
 
-mod note_bodies;
-mod note_desk;
-mod note_documents;
-mod note_places;
-mod note_planner;
-mod note_rows;
-mod note_targets;
+#[cfg(test)]
+mod bad_messages;
+mod connections;
 mod notices;
+#[cfg(test)]
+mod orders;
 mod pipes;
 #[cfg(test)]
-mod refusals;
+mod relationships;
+#[cfg(test)]
+mod resources;
+#[cfg(test)]
+mod rows;
+mod schemas;
 #[cfg(test)]
 mod tests;
 

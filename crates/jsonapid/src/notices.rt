@@ -7,7 +7,7 @@ use ident_rules::Text;
 fn help_text() -> &'static str
     ensures { result.now ≡ help_text }
 {
-    "usage: jsonapid pipe\n\nServes one connection of HTTP/1.1 from standard input to standard output, over a store of notes that begins empty.\n"
+    "usage: jsonapid pipe [PATH]\n\nServes one connection of HTTP/1.1 from standard input to standard output, over a store that begins empty: of notes, or of the types of the schema file PATH.\n"
 }
 
 /// What `--version` prints.

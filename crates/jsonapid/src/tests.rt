@@ -20,14 +20,88 @@ const NOT_FOUND: &[u8] =
 const CLOSING_HEAD: &[u8] =
     b"HTTP/1.1 404 Not Found\r\nVary: Accept\r\nContent-Type: application/vnd.api+json\r\nContent-Length: 68\r\nConnection: close\r\n\r\n";
 
-const NOT_BUILT: &[u8] =
-    b"HTTP/1.1 501 Not Implemented\r\nVary: Accept\r\nContent-Type: application/vnd.api+json\r\nContent-Length: 68\r\n\r\n{\"errors\":[{\"code\":\"not-built\",\"status\":\"501\",\"title\":\"Not built\"}]}";
-
 const BAD_MESSAGE: &[u8] =
     b"HTTP/1.1 400 Bad Request\r\nVary: Accept\r\nContent-Type: application/vnd.api+json\r\nContent-Length: 78\r\nConnection: close\r\n\r\n{\"errors\":[{\"code\":\"bad-message\",\"status\":\"400\",\"title\":\"Malformed message\"}]}";
 
-/// Runs the command on one word, over an input that comes whole or byte by byte, and answers its status and what was
-/// written.
+const NO_DATA: &[u8] =
+    b"HTTP/1.1 400 Bad Request\r\nVary: Accept\r\nContent-Type: application/vnd.api+json\r\nContent-Length: 104\r\n\r\n{\"errors\":[{\"code\":\"bad-document\",\"source\":{\"pointer\":\"\"},\"status\":\"400\",\"title\":\"Malformed document\"}]}";
+
+/// The numbers, from 1, of the calls that are to fail, 0 for none: reads of the source, writes of the sink, calls of the opener,
+/// and reads of the schema file.
+#[derive(Clone, Copy)]
+pub(crate) struct Failing {
+    pub source: u64,
+    pub sink: u64,
+    pub open: u64,
+    pub file: u64,
+}
+
+/// No call fails.
+pub(crate) const NO_FAULT: Failing = Failing {
+    source: 0,
+    sink: 0,
+    open: 0,
+    file: 0,
+};
+
+/// What a run of the command came to.
+#[derive(Drop)]
+pub(crate) struct Ran {
+    /// The exit status.
+    pub status: u8,
+    /// How often the source was asked.
+    pub reads: u64,
+    /// What was written.
+    pub sink: MemorySink,
+}
+
+/// The words as texts.
+fn texts(alloc: Global, words: &[&str]) -> Result<Vec<Text>, NoMemory> {
+    let mut texts = Vec::new(alloc);
+    for word in words {
+        texts.push(Text::from_str(alloc, word)?)?;
+    }
+    Ok(texts)
+}
+
+/// An opener with the file `s` alone.
+fn opener_of(alloc: Global, schema: &[u8], failing: Failing) -> Result<MemoryOpener, NoMemory> {
+    let name = Text::from_str(alloc, "s")?.into_string();
+    let bytes = Vec::from_slice(alloc, schema)?;
+    let reads = vec![in alloc; failing.file]?;
+    let files = vec![in alloc; (name, bytes, reads)]?;
+    Ok(MemoryOpener::new(alloc, files, vec![in alloc; failing.open]?))
+}
+
+/// Runs the command on some words, with a schema in the file `s`, over an input that comes whole or byte by byte.
+pub(crate) fn run_words(
+    alloc: Global,
+    words: &[&str],
+    schema: &[u8],
+    input: &[u8],
+    whole: bool,
+    failing: Failing,
+) -> Result<Ran, NoMemory> {
+    let piece = if whole { 65_536 } else { 1 };
+    let words = texts(alloc, words)?;
+    let mut opener = opener_of(alloc, schema, failing)?;
+    let mut source = MemorySource::new(
+        Vec::from_slice(alloc, input)?,
+        piece,
+        vec![in alloc; failing.source]?,
+    );
+    let mut sink = MemorySink::new(alloc, vec![in alloc; failing.sink]?);
+    let status = pipe_command(alloc, words.as_slice(), &mut opener, &mut source, &mut sink);
+    let reads = source.calls();
+    Ok(Ran {
+        status,
+        reads,
+        sink,
+    })
+}
+
+/// Runs the command on one word, and answers its status and what was written. Of `failing`, the first is of the source and the
+/// second of the sink.
 pub(crate) fn run(
     alloc: Global,
     word: &str,
@@ -35,17 +109,14 @@ pub(crate) fn run(
     whole: bool,
     failing: (u64, u64),
 ) -> Result<(u8, MemorySink), NoMemory> {
-    let piece = if whole { 65_536 } else { 1 };
-    let words = vec![in alloc; Text::from_str(alloc, word)?]?;
-    let mut opener = MemoryOpener::new(alloc, Vec::new(alloc), Vec::new(alloc));
-    let mut source = MemorySource::new(
-        Vec::from_slice(alloc, input)?,
-        piece,
-        vec![in alloc; failing.0]?,
-    );
-    let mut sink = MemorySink::new(alloc, vec![in alloc; failing.1]?);
-    let status = pipe_command(alloc, words.as_slice(), &mut opener, &mut source, &mut sink);
-    Ok((status, sink))
+    let faults = Failing {
+        source: failing.0,
+        sink: failing.1,
+        open: 0,
+        file: 0,
+    };
+    let ran = run_words(alloc, &[word], b"", input, whole, faults)?;
+    Ok((ran.status, ran.sink))
 }
 
 #[test]
@@ -64,7 +135,7 @@ fn answers_by_the_table(rt: HostRuntime) {
         (
             b"POST /notes HTTP/1.1\r\nHost: h\r\nContent-Type: application/vnd.api+json\r\nContent-Length: 2\r\n\r\n{}",
             true,
-            NOT_BUILT,
+            NO_DATA,
             0,
         ),
         (

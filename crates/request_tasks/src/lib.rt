@@ -13,4 +13,4 @@ mod tasks;
 mod tests;
 
 pub use laws::built_plan_is_the_plan;
-pub use planner::RequestTasks;
+pub use planner::{LentTasks, RequestTasks};

@@ -1,5 +1,8 @@
 ghost use Rattle.std.specs.Prelude.{◌≡◌, IfOk};
-ghost use Rattle.request_tasks.specs.BuiltPlans.{planned_so_far};
+ghost use Rattle.task_forms.specs.Fit.{IsFit};
+ghost use Rattle.task_forms.specs.declared.tasks.Task.{Task as StoreTask};
+ghost use Rattle.task_forms.specs.declared.tasks.Plan.TheVariants.{Run};
+ghost use Rattle.request_tasks.specs.BuiltPlans.{planned_so_far, IsBuiltTask};
 
 use crate::laws::{built_task_is_fit, planned_task_is_built};
 use crate::stops::Stop;
@@ -10,6 +13,21 @@ use resource_schema::Schema;
 use std::alloc::Global;
 use std::marker::Model;
 use task_forms::{Plan, Planner};
+
+/// What a message asks for, in a schema.
+fn planned_so_far(alloc: Global, schema: &Schema, message: &Message) -> Result<Plan, NoMemory>
+    ensures planned { IfOk result (λ p. p ≡ planned_so_far schema.now message.now) }
+    ensures fit { IfOk result (λ p. (t : StoreTask) → p ≡ Run t → IsFit schema.now t × IsBuiltTask schema.now t) }
+{
+    let _rules = schema.kinds();
+    built_task_is_fit();
+    planned_task_is_built();
+    match task_or_reply_so_far(alloc, schema, message) {
+        Ok(task) => Ok(Plan::Run(task)),
+        Err(Stop::Because(reply)) => Ok(Plan::Fixed(reply)),
+        Err(Stop::NoMemory) => Err(NoMemory),
+    }
+}
 
 /// Plans the messages of a schema. Contracts see the schema, as the list of its types.
 ///
@@ -40,17 +58,6 @@ impl RequestTasks {
             schema: schema.copy(alloc)?,
         })
     }
-
-    /// What a message asks for.
-    fn planned_so_far(&self, alloc: Global, message: &Message) -> Result<Plan, NoMemory>
-        ensures { IfOk result (λ p. p ≡ planned_so_far self.now message.now) }
-    {
-        match task_or_reply_so_far(alloc, &self.schema, message) {
-            Ok(task) => Ok(Plan::Run(task)),
-            Err(Stop::Because(reply)) => Ok(Plan::Fixed(reply)),
-            Err(Stop::NoMemory) => Err(NoMemory),
-        }
-    }
 }
 
 /// Judges the target, the path, the method, the content, what is accepted, the form and the body, in this order, and
@@ -64,9 +71,26 @@ impl Planner for RequestTasks {
     ghost fit = { λ t task. IsFit t task × IsBuiltTask t task };
 
     fn plan(&self, alloc: Global, message: &Message) -> Result<Plan, NoMemory> {
-        let _rules = self.schema.kinds();
-        built_task_is_fit();
-        planned_task_is_built();
-        self.planned_so_far(alloc, message)
+        planned_so_far(alloc, &self.schema, message)
+    }
+}
+
+/// Plans the messages of a schema that is lent, as `RequestTasks` does. It takes no memory of its own.
+#[derive(Clone, Copy)]
+pub struct LentTasks<'s> {
+    /// The schema.
+    pub schema: &'s Schema,
+}
+
+impl<'s> Planner for LentTasks<'s> {
+    ghost use Rattle.task_forms.specs.Fit.{IsFit};
+    ghost use Rattle.request_tasks.specs.BuiltPlans.{IsBuiltTask, planned_so_far};
+
+    ghost planned = { λ t m. planned_so_far t.schema.now m };
+
+    ghost fit = { λ t task. IsFit t.schema.now task × IsBuiltTask t.schema.now task };
+
+    fn plan(&self, alloc: Global, message: &Message) -> Result<Plan, NoMemory> {
+        planned_so_far(alloc, self.schema, message)
     }
 }

@@ -1,6 +1,6 @@
 ghost use Rattle.std.specs.Prelude.{◌≡◌, codes};
 
-use crate::RequestTasks;
+use crate::{LentTasks, RequestTasks};
 use http_messages::{Allow, Field, Message, Reply};
 use ident_rules::{Bytes, List, Name, NoMemory, Text, read_name};
 use resource_schema::{Kind, Relationship, Schema};
@@ -363,5 +363,21 @@ fn plans_requests_of_relationships(rt: HostRuntime) -> Result<(), Fail> {
         let answer = planned(alloc, &tasks, request, fields, body)?;
         assert_eq!(rt; answer.as_str(), want, "{request}");
     }
+    Ok(())
+}
+
+// What is planned for a removal of a note where the schema is lent, in words.
+fn planned_where_lent(alloc: Global) -> Result<String, NoMemory> {
+    let schema = Schema::notes(alloc)?;
+    let tasks = LentTasks { schema: &schema };
+    let message = message(alloc, "DELETE", "/notes/1", NO_FIELD, "")?;
+    let plan = tasks.plan(alloc, &message)?;
+    Ok(words_of(alloc, &plan)?)
+}
+
+#[test]
+fn plans_where_the_schema_is_lent(rt: HostRuntime) -> Result<(), Fail> {
+    let answer = planned_where_lent(rt.alloc())?;
+    assert_eq!(rt; answer.as_str(), "remove, empty");
     Ok(())
 }

@@ -65,11 +65,40 @@ impl Planner for Asker {
     }
 }
 
-/// Answers so many tasks, and is worn then. It promises no history.
+/// Asks the desk for the target `/`, and finds nothing for others.
+struct Chooser;
+
+impl Planner for Chooser {
+    ghost use Rattle.std.specs.Prelude.{[], None, codes, if◌then◌else◌, ⊤};
+    ghost use Rattle.std.specs.Str.{bytes_eq};
+    ghost use Rattle.http_messages.specs.declared.messages.Content.TheVariants as content;
+    ghost use Rattle.http_messages.specs.declared.messages.Allow.TheVariants as allow;
+    ghost use Rattle.resource_schema.specs.declared.targets.Target.TheVariants.{Operations};
+    ghost use Rattle.task_forms.specs.declared.tasks.Plan.TheVariants.{Fixed, Run};
+    ghost use Rattle.task_forms.specs.declared.tasks.Task.TheVariants as task;
+
+    ghost planned = { λ _ m. if bytes_eq m.target (codes "/") then Run (task.Fetch (record {
+      target = Operations;
+      query = record { pairs = []; include = None; fields = []; sort = []; page = record { size = 1; after = None; before = None } };
+    })) else Fixed (record { status = 404; content = content.Nothing; location = None; allow = allow.Nothing; body = [] }) };
+
+    ghost fit = { λ _ _. ⊤ };
+
+    fn plan(&self, alloc: Global, message: &Message) -> Result<Plan, NoMemory> {
+        if message.target.as_str() == "/" {
+            Asker.plan(alloc, message)
+        } else {
+            Finder.plan(alloc, message)
+        }
+    }
+}
+
+/// Answers so many tasks, and then ends so. It promises no history.
 #[derive(Drop)]
 struct Few {
     alloc: Global,
     answers: u8,
+    end: DeskEnd,
 }
 
 impl Desk for Few {
@@ -98,7 +127,7 @@ impl Desk for Few {
 
     fn answer(&mut self, _task: Task) -> Result<Reply, DeskEnd> {
         if self.answers == 0 {
-            return Err(DeskEnd::Worn);
+            return Err(self.end);
         }
         self.answers -= 1;
         Ok(Reply {
@@ -111,16 +140,23 @@ impl Desk for Few {
     }
 }
 
-/// How a session over these bytes, read in pieces of 7, ended, how many messages it answered, and whether it wrote the text.
+/// How a session over these bytes, read in pieces of 7, ended, how many messages it answered, and whether it wrote the text,
+/// over a desk that answers two tasks and then ends so, and a sink that fails in that call.
 fn serve<P: Planner>(
     alloc: Global,
     planner: &P,
     bytes: &[u8],
+    desk_end: DeskEnd,
+    failing: u64,
     text: &[u8],
 ) -> Result<(Driven, bool), NoMemory> {
     let mut source = MemorySource::new(Vec::from_slice(alloc, bytes)?, 7, Vec::new(alloc));
-    let mut sink = MemorySink::new(alloc, Vec::new(alloc));
-    let mut desk = Few { alloc, answers: 2 };
+    let mut sink = MemorySink::new(alloc, vec![in alloc; failing]?);
+    let mut desk = Few {
+        alloc,
+        answers: 2,
+        end: desk_end,
+    };
     let driven = drive_counted(
         alloc,
         Limits::standard(),
@@ -177,7 +213,7 @@ fn serves_fixed_replies(rt: HostRuntime) -> Result<(), Fail> {
     ];
     for (bytes, end, answered, text) in rows {
         assert_eq!(rt;
-            serve(rt.alloc(), &Finder, bytes, text),
+            serve(rt.alloc(), &Finder, bytes, DeskEnd::Worn, 0, text),
             Ok((Driven { end, answered }, true))
         );
     }
@@ -202,7 +238,59 @@ fn serves_tasks(rt: HostRuntime) -> Result<(), Fail> {
     ];
     for (bytes, end, answered, text) in rows {
         assert_eq!(rt;
-            serve(rt.alloc(), &Asker, bytes, text),
+            serve(rt.alloc(), &Asker, bytes, DeskEnd::Worn, 0, text),
+            Ok((Driven { end, answered }, true))
+        );
+    }
+    Ok(())
+}
+
+const MIX: &[u8] =
+    b"GET /x HTTP/1.1\r\nHost: h\r\n\r\nGET / HTTP/1.1\r\nHost: h\r\n\r\nGET /y HTTP/1.1\r\nHost: h\r\n\r\nGET / HTTP/1.1\r\nHost: h\r\nConnection: close\r\n\r\nGET / HTTP/1.1\r\nHost: h\r\n\r\n";
+
+const FOUND_AND_DONE: &[u8] =
+    b"HTTP/1.1 404 Not Found\r\nVary: Accept\r\nContent-Length: 0\r\n\r\nHTTP/1.1 204 No Content\r\nVary: Accept\r\n\r\n";
+
+// A row: the bytes, how the desk ends, the call of the sink that fails, how the session ends, the messages that it answers and
+// the text that it writes.
+#[test]
+fn serves_a_mix(rt: HostRuntime) -> Result<(), Fail> {
+    let asked =
+        b"GET / HTTP/1.1\r\nHost: h\r\n\r\nGET / HTTP/1.1\r\nHost: h\r\n\r\nGET / HTTP/1.1\r\nHost: h\r\n\r\n";
+    let expecting =
+        b"POST /x HTTP/1.1\r\nHost: h\r\nExpect: 100-continue\r\nContent-Length: 3\r\n\r\nabc";
+    let rows: [(&[u8], DeskEnd, u64, SessionEnd, u64, &[u8]); 6] = [
+        (
+            MIX,
+            DeskEnd::Worn,
+            0,
+            SessionEnd::Closed,
+            4,
+            b"HTTP/1.1 404 Not Found\r\nVary: Accept\r\nContent-Length: 0\r\n\r\nHTTP/1.1 204 No Content\r\nVary: Accept\r\n\r\nHTTP/1.1 404 Not Found\r\nVary: Accept\r\nContent-Length: 0\r\n\r\nHTTP/1.1 204 No Content\r\nVary: Accept\r\nConnection: close\r\n\r\n",
+        ),
+        (
+            asked,
+            DeskEnd::NoMemory,
+            0,
+            SessionEnd::NoMemory,
+            2,
+            b"HTTP/1.1 204 No Content\r\nVary: Accept\r\n\r\nHTTP/1.1 204 No Content\r\nVary: Accept\r\n\r\nHTTP/1.1 503 Service Unavailable\r\nVary: Accept\r\nContent-Length: 0\r\nConnection: close\r\n\r\n",
+        ),
+        (MIX, DeskEnd::Worn, 1, SessionEnd::WriteFault, 0, b""),
+        (MIX, DeskEnd::Worn, 2, SessionEnd::WriteFault, 1, NOT_FOUND),
+        (
+            MIX,
+            DeskEnd::Worn,
+            3,
+            SessionEnd::WriteFault,
+            2,
+            FOUND_AND_DONE,
+        ),
+        (expecting, DeskEnd::Worn, 1, SessionEnd::WriteFault, 0, b""),
+    ];
+    for (bytes, desk_end, failing, end, answered, text) in rows {
+        assert_eq!(rt;
+            serve(rt.alloc(), &Chooser, bytes, desk_end, failing, text),
             Ok((Driven { end, answered }, true))
         );
     }

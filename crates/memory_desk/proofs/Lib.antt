@@ -1,0 +1,3 @@
+mod Fetched
+mod Tried
+mod Joining

@@ -1,0 +1,4 @@
+pub mod Answered
+pub mod Alone
+pub mod Rows
+pub mod States

@@ -1,0 +1,16 @@
+pub mod Backs
+pub mod Leading
+pub mod Rewriting
+pub mod Referring
+pub mod Removing
+pub mod StepLaws
+pub mod Finding
+pub mod Targets
+pub mod Theres
+pub mod Judging
+pub mod Limits
+pub mod LinkSteps
+pub mod NewIds
+pub mod RewriteOutcomes
+pub mod MemberSteps
+pub mod CreateOutcomes

@@ -1,0 +1,286 @@
+-- The first links that lead to a key say whether another row links to it.
+use Rattle.std.proofs.Common.{◌≡◌, ℕ, zero, suc, ◌+◌, ◌-◌, ◌^◌, ◌<◌, ◌≤◌, List, [], ◌∷◌, Bool, true, false, refl, sym, ap, subst, ◌∙◌, Some, None, Option, Result, Ok, Err, length, get_or, arith, inl, inr}
+use Rattle.std.specs.Prelude.{◌⊎◌, ◌&&◌, ◌||◌, not, cond, T, IsTrue, IsFalse, is_some, map, if◌then◌else◌}
+use Rattle.std.specs.Option.{option_map_or, option_map}
+use Rattle.std.specs.List.{list_any, range_with_len}
+use Rattle.std.specs.Borrow.{Bor}
+use Rattle.std.specs.declared.cmp.Ordering.{Ordering}
+use Rattle.std.specs.declared.cmp.Ordering.TheVariants.{Less, Equal, Greater}
+use Rattle.std.specs.Ordering.{is_eq, is_lt, ordering_then, ordering_reverse, nat_cmp}
+use Rattle.std.specs.Cmp.{tied_itself, ranked, eq_by_cmp_equiv}
+use Rattle.std.specs.FinMap.Entries.{find, is_sorted, below_all}
+use Rattle.std.proofs.lemmas.List.Folds.{list_any-append}
+use Rattle.ident_rules.specs.declared.key.Key.{Key}
+use Rattle.ident_rules.specs.declared.memory.NoMemory.{NoMemory}
+use Rattle.ident_rules.specs.Key.{key_cmp, key_cmp_total, key_cmp-IsAntisymmetric, same_key}
+use Rattle.resource_schema.specs.declared.schema.Schema.{Schema}
+use Rattle.resource_schema.specs.Kinds.{target_of}
+use Rattle.world_cells.specs.declared.rows.Link.{Link}
+use Rattle.world_cells.specs.declared.rows.Row.{Row}
+use Rattle.world_cells.specs.declared.keys.CellKey.{CellKey}
+use Rattle.world_cells.specs.declared.keys.CellKey.TheVariants as cell_key
+use Rattle.world_cells.specs.declared.cells.Cell.{Cell}
+use Rattle.world_cells.specs.declared.cells.Cell.TheVariants as cell
+use Rattle.world_cells.specs.declared.spans.Span.{Span}
+use Rattle.world_cells.specs.declared.spans.Span.TheVariants as span
+use Rattle.world_cells.specs.declared.sets.ReadSet.{ReadSet}
+use Rattle.world_cells.specs.CellOrder.{cell_key_cmp, same_cell_key}
+use Rattle.world_cells.specs.Lists.{IsIn}
+use Rattle.world_cells.specs.Reads.{Cells, link_cmp, in_span, in_part, covers, IsFirstIn}
+use Rattle.world_cells.specs.World.{World, row_at, cell_at, links_to, ids_of, no_link}
+use Rattle.store_model.specs.Valid.{IsValid}
+use Rattle.store_model.specs.Change.{is_referenced}
+use Rattle.store_model.specs.Reach.{is_back_to}
+use Rattle.view_reads.specs.Narrowing.{is_behind}
+use Rattle.view_reads.specs.Recording.{Recording, LookedFirst, read_part}
+use Rattle.view_reads.specs.RecordingLaws.{part_still_read}
+use Rattle.row_change.specs.Steps.{LooksAt}
+use Rattle.row_change.specs.WaysBack.{link_found, FitsLink, IsFirstLink}
+use Rattle.row_change.proofs.Backs.{is_equal}
+use Rattle.row_change.proofs.StepLaws.{looks_still}
+
+-- ---- tests
+
+and_left : (a b : Bool) → (a && b) ≡ true → a ≡ true
+and_left true b e = refl
+and_left false b e = cc e
+
+and_right : (a b : Bool) → (a && b) ≡ true → b ≡ true
+and_right true b e = e
+and_right false b e = cc e
+
+and_both : (a b : Bool) → a ≡ true → b ≡ true → (a && b) ≡ true
+and_both true b e h = h
+and_both false b e h = cc e
+
+or_left : (a b : Bool) → a ≡ true → (a || b) ≡ true
+or_left true b e = refl
+or_left false b e = cc e
+
+or_right : (a b : Bool) → b ≡ true → (a || b) ≡ true
+or_right true b e = refl
+or_right false b e = e
+
+key_is : (x y : Key) → same_key x y ≡ true → x ≡ y
+key_is x y e = key_cmp-IsAntisymmetric x y (is_equal _ e)
+
+turned_key : (x y : Key) → same_key x y ≡ same_key y x
+turned_key x y = (eq_by_cmp_equiv key_cmp_total).symm x y
+
+-- ---- what a look into the ways back from a key looks at
+
+newly : (a b c : Bool) → (a || (b || (c || false))) ≡ true → (a || b) ≡ false → c ≡ true
+newly true b c e f = cc f
+newly false true c e f = cc f
+newly false false true e f = refl
+newly false false false e f = cc e
+
+-- what is newly covered when a part was read lies in its span
+only_span : (reads : ReadSet) (s : Span) (found : Option CellKey) (k : CellKey) → IsTrue (covers (read_part reads s found false) k) → IsFalse (covers reads k) → in_span s k ≡ true
+only_span reads s found k new old =
+    and_left (in_span s k) _
+    (newly (list_any (same_cell_key k) reads.keys) (list_any (λ part. in_part part k) reads.parts) (in_part (record { span = s; found = found; from_top = false }) k)
+    (ap (λ b. list_any (same_cell_key k) reads.keys || b) (sym (list_any-append (λ part. in_part part k) reads.parts (record { span = s; found = found; from_top = false } ∷ []))) ∙ new) old)
+
+back_in : (key : Key) (after : Option (Key × ℕ)) (k : CellKey) → in_span (span.Backs key after) k ≡ true → IsTrue (is_back_to (key ∷ []) k)
+back_in key after (cell_key.Row k) e = cc e
+back_in key after (cell_key.Back to from rel) e = or_left (same_key to key) false (turned_key to key ∙ and_left (same_key key to) _ e)
+back_in key after (cell_key.Counter n) e = cc e
+
+pub looks_back : {V : Type 0} (cells : V → Cells) (old : Recording V) (key : Key) (after : Option (Key × ℕ)) (result : Result (Option (Bor CellKey × Bor Cell)) NoMemory) (new : Recording V)
+    → LookedFirst cells old (span.Backs key after) result new → LooksAt (is_back_to (key ∷ [])) old new
+looks_back cells old key after (Ok found) new looked =
+    subst (λ (r : Recording _). LooksAt (is_back_to (key ∷ [])) old r) (sym looked.1) (record {
+      follows = record { store = refl; reads = λ k e. part_still_read old.reads (span.Backs key after) (option_map (λ p. p.0.now) found) false k e };
+      writes = refl;
+      within = λ k more less. back_in key after k (only_span old.reads (span.Backs key after) (option_map (λ p. p.0.now) found) k more less);
+    })
+looks_back cells old key after (Err e) new looked = looks_still (is_back_to (key ∷ [])) old new looked
+
+-- ---- the first link that is found
+
+in_backs : (key from : Key) (after : Option (Key × ℕ)) (rel : ℕ) → is_behind after (from, rel) ≡ true → in_span (span.Backs key after) (cell_key.Back key from rel) ≡ true
+in_backs key from after rel behind = and_both (same_key key key) _ (ap is_eq (tied_itself key_cmp_total key)) behind
+
+below_cell : (key a from : Key) (r rel : ℕ) → is_lt (link_cmp (a, r) (from, rel)) ≡ true → is_lt (cell_key_cmp (cell_key.Back key a r) (cell_key.Back key from rel)) ≡ true
+below_cell key a from r rel below = ap (λ o. is_lt (ordering_then o (ordering_then (key_cmp a from) (nat_cmp r rel)))) (tied_itself key_cmp_total key) ∙ below
+
+pub first_found : (f : Cells) (key : Key) (after : Option (Key × ℕ)) (found : Option (CellKey × Cell)) → IsFirstIn f (span.Backs key after) found → IsFirstLink f key after (link_found found)
+first_found f key after None none = λ from rel behind. none (cell_key.Back key from rel) (in_backs key from after rel behind)
+first_found f key after (Some (cell_key.Row k, c)) first = absurd (false_true first.0)
+  where
+    false_true : false ≡ true → ⊥
+    false_true e = cc e
+first_found f key after (Some (cell_key.Back to from rel, c)) first =
+    let same : key ≡ to = key_is key to (and_left (same_key key to) _ first.0) in (
+      and_right (same_key key to) (is_behind after (from, rel)) first.0,
+      (c, ap (λ q. f (cell_key.Back q from rel)) same ∙ first.1),
+      λ a r behind below. first.2 (cell_key.Back key a r) (in_backs key a after r behind)
+          (subst (λ (q : Key). is_lt (cell_key_cmp (cell_key.Back key a r) (cell_key.Back q from rel)) ≡ true) same (below_cell key a from r rel below)),
+    )
+first_found f key after (Some (cell_key.Counter n, c)) first = absurd (false_true first.0)
+  where
+    false_true : false ≡ true → ⊥
+    false_true e = cc e
+
+-- ---- lists
+
+passes : {A : Type 0} (p : A → Bool) (xs : List A) (x : A) → IsIn xs x → p x ≡ true → list_any p xs ≡ true
+passes p [] x among e = elim among [ ]
+passes p (y ∷ xs) x (inl is) e = or_left (p y) _ (ap p is ∙ e)
+passes p (y ∷ xs) x (inr among) e = or_right (p y) _ (passes p xs x among e)
+
+none_passes : {A : Type 0} (p : A → Bool) (xs : List A) → ((x : A) → IsIn xs x → p x ≡ false) → list_any p xs ≡ false
+none_passes p [] each = refl
+none_passes p (y ∷ xs) each = ap (λ b. b || list_any p xs) (each y (inl refl)) ∙ none_passes p xs (λ x among. each x (inr among))
+
+in_range : (n a i : ℕ) → i < n → IsIn (range_with_len a n) (a + i)
+in_range zero a i h = let no : ⊥ = omega arith in absurd no
+in_range (suc n) a zero h = inl (omega arith)
+in_range (suc n) a (suc i) h =
+    let same : (a + 1) + i ≡ a + suc i = omega arith in
+    let lower : i < n = omega arith in
+    inr (subst (λ j. IsIn (range_with_len (a + 1) n) j) same (in_range n (a + 1) i lower))
+
+within : (links : List Link) (rel : ℕ) → (rel < length links) ⊎ (get_or links rel no_link ≡ no_link)
+within [] rel = inr refl
+within (l ∷ links) zero = inl (omega arith)
+within (l ∷ links) (suc rel) = up (within links rel)
+  where
+    up : (rel < length links) ⊎ (get_or links rel no_link ≡ no_link) → (suc rel < length (l ∷ links)) ⊎ (get_or links rel no_link ≡ no_link)
+    up (inl h) = inl (omega arith)
+    up (inr e) = inr e
+
+-- a link stands at one of a row's relationships
+link_somewhere : (schema : Schema) (row : Row) (rel : ℕ) (to : Key) → links_to schema row rel to ≡ true → list_any (λ rel. links_to schema row rel to) (range_with_len 0 (length row.links)) ≡ true
+link_somewhere schema row rel to leads = elim (within row.links rel) [
+  | inl h ↦ passes (λ rel. links_to schema row rel to) (range_with_len 0 (length row.links)) rel (let same : 0 + rel ≡ rel = omega arith in subst (λ i. IsIn (range_with_len 0 (length row.links)) i) same (in_range (length row.links) 0 rel h)) leads
+  | inr e ↦ let none : false ≡ true = subst (λ l. list_any (same_key to) (map (λ x. record { kind = target_of schema row.key.kind rel; id = x }) (ids_of l)) ≡ true) e leads in cc
+]
+
+-- ---- entries in the order of their keys
+
+find_in : (k : Key) (es : List (Key × Row)) (row : Row) → find key_cmp k es ≡ Some row → (at : Key) × IsIn es (at, row) × (k ≡ at)
+find_in k [] row e = cc
+find_in k (x ∷ es) row e =
+    elim (same_key k x.0) as (λ b. same_key k x.0 ≡ b → cond b (Some x.1) (find key_cmp k es) ≡ Some row → (at : Key) × IsIn (x ∷ es) (at, row) × (k ≡ at)) [
+      | true ↦ λ same e. (x.0, inl (λ i. (x.0, option_map_or (λ r. r) (e i) row)), key_is k x.0 same)
+      | false ↦ λ apart e. let later = find_in k es row e in (later.0, inr later.1, later.2)
+    ] refl e
+
+true_of : (b : Bool) → T b → b ≡ true
+true_of true h = refl
+true_of false h = absurd h
+
+T_and : (a b : Bool) → T (a && b) → T a × T b
+T_and true b h = (tt, h)
+T_and false b h = absurd h
+
+less_is_not_tied : (o : Ordering) → is_lt o ≡ true → is_eq (ordering_reverse o) ≡ false
+less_is_not_tied Less e = refl
+less_is_not_tied Equal e = cc
+less_is_not_tied Greater e = cc
+
+below_in : (x : Key) (es : List (Key × Row)) (e : Key × Row) → T (below_all key_cmp x es) → IsIn es e → is_lt (key_cmp x e.0) ≡ true
+below_in x [] e h among = elim among [ ]
+below_in x (d ∷ es) e h (inl is) = ap (λ (c : Key × Row). is_lt (key_cmp x c.0)) (sym is) ∙ true_of _ (T_and _ _ h).0
+below_in x (d ∷ es) e h (inr among) = below_in x es e (T_and _ _ h).1 among
+
+-- what an entry in order says is what a look-up finds
+find_of_in : (es : List (Key × Row)) (e : Key × Row) → T (is_sorted key_cmp es) → IsIn es e → find key_cmp e.0 es ≡ Some e.1
+find_of_in [] e h among = elim among [ ]
+find_of_in (d ∷ es) e h (inl is) =
+    subst (λ (c : Key × Row). find key_cmp c.0 (d ∷ es) ≡ Some c.1) is (ap (λ r. cond (is_eq r) (Some d.1) (find key_cmp d.0 es)) (tied_itself key_cmp_total d.0))
+find_of_in (d ∷ es) e h (inr among) =
+    let parts = T_and _ _ h in
+    let apart : same_key e.0 d.0 ≡ false = ap is_eq (key_cmp_total.antisymm e.0 d.0) ∙ less_is_not_tied (key_cmp d.0 e.0) (below_in d.0 es e parts.0 among) in
+    ap (λ b. cond b (Some d.1) (find key_cmp e.0 es)) apart ∙ find_of_in es e parts.1 among
+
+-- ---- rows that link to the key
+
+back_none : (b : Bool) → (if b then Some cell.Back else None) ≡ None → b ≡ false
+back_none true e = cc e
+back_none false e = refl
+
+back_some : (b : Bool) (c : Cell) → (if b then Some cell.Back else None) ≡ Some c → b ≡ true
+back_some true c e = refl
+back_some false c e = cc e
+
+-- no way back from the key leads to another row
+none_leads : (schema : Schema) (now : World) (key : Key) → IsValid schema now
+    → ((from : Key) (rel : ℕ) → same_key key from ≡ false → cell_at schema now (cell_key.Back key from rel) ≡ None) → is_referenced schema now key ≡ false
+none_leads schema now key valid none =
+    none_passes (λ e. not (same_key key e.0) && list_any (λ rel. links_to schema e.1 rel key) (range_with_len 0 (length e.1.links))) now.rows (λ e among. at e among (same_key key e.0) refl)
+  where
+    at : (e : Key × Row) → IsIn now.rows e → (b : Bool) → same_key key e.0 ≡ b → (not (same_key key e.0) && list_any (λ rel. links_to schema e.1 rel key) (range_with_len 0 (length e.1.links))) ≡ false
+    at e among true same = ap (λ b. not b && list_any (λ rel. links_to schema e.1 rel key) (range_with_len 0 (length e.1.links))) same
+    at e among false apart =
+        ap (λ b. not b && list_any (λ rel. links_to schema e.1 rel key) (range_with_len 0 (length e.1.links))) apart
+        ∙ none_passes (λ rel. links_to schema e.1 rel key) (range_with_len 0 (length e.1.links)) (λ rel _.
+        ap (λ (o : Option Row). option_map_or (λ row. links_to schema row rel key) o false) (sym (find_of_in now.rows e valid.rows_sorted among))
+        ∙ back_none (option_map_or (λ row. links_to schema row rel key) (row_at now e.0) false) (none e.0 rel apart))
+
+-- one leads to another row
+some_leads : (schema : Schema) (now : World) (key from : Key) (rel : ℕ) (c : Cell) → same_key key from ≡ false → cell_at schema now (cell_key.Back key from rel) ≡ Some c → is_referenced schema now key ≡ true
+some_leads schema now key from rel c apart there = by (row_at now from) refl (back_some (option_map_or (λ row. links_to schema row rel key) (row_at now from) false) c there)
+  where
+    by : (o : Option Row) → row_at now from ≡ o → option_map_or (λ row. links_to schema row rel key) (row_at now from) false ≡ true → is_referenced schema now key ≡ true
+    by None is leads = let none : false ≡ true = subst (λ (o : Option Row). option_map_or (λ row. links_to schema row rel key) o false ≡ true) is leads in cc none
+    by (Some row) is leads =
+        let found = find_in from now.rows row is in
+        let links : links_to schema row rel key ≡ true = subst (λ (o : Option Row). option_map_or (λ row. links_to schema row rel key) o false ≡ true) is leads in
+        passes (λ e. not (same_key key e.0) && list_any (λ rel. links_to schema e.1 rel key) (range_with_len 0 (length e.1.links))) now.rows (found.0, row) found.1
+        (and_both (not (same_key key found.0)) (list_any (λ rel. links_to schema row rel key) (range_with_len 0 (length row.links)))
+        (subst (λ q. not (same_key key q) ≡ true) found.2 (ap not apart)) (link_somewhere schema row rel key links))
+
+-- ---- what the first links say
+
+-- there is none
+pub none_first : (schema : Schema) (now : World) (key : Key) → IsValid schema now → IsFirstLink (cell_at schema now) key None None → false ≡ is_referenced schema now key
+none_first schema now key valid first = sym (none_leads schema now key valid (λ from rel apart. first from rel refl))
+
+-- it is another row's
+pub other_first : (schema : Schema) (now : World) (key : Key) (after : Option (Key × ℕ)) (l : Key × ℕ) → IsFirstLink (cell_at schema now) key after (Some l) → same_key key l.0 ≡ false
+    → true ≡ is_referenced schema now key
+other_first schema now key after l first apart = sym (some_leads schema now key l.0 l.1 first.1.0 apart first.1.1)
+
+-- it is the key's own row's, and then the first behind all of those says it
+pub own_first : (schema : Schema) (now : World) (key : Key) (top : ℕ) (l : Key × ℕ) (other : Option (Key × ℕ)) → IsValid schema now → IsFirstLink (cell_at schema now) key None (Some l) → key ≡ l.0
+    → IsFirstLink (cell_at schema now) key (Some (key, top)) other → ((m : Key × ℕ) → other ≡ Some m → m.1 ≤ top) → is_some other ≡ is_referenced schema now key
+own_first schema now key top l None valid first own behind fits = sym (none_leads schema now key valid (λ from rel apart. by from rel apart (key_cmp key from) refl))
+  where
+    by : (from : Key) (rel : ℕ) → same_key key from ≡ false → (o : Ordering) → key_cmp key from ≡ o → cell_at schema now (cell_key.Back key from rel) ≡ None
+    by from rel apart Less is = behind from rel (ap (λ o. is_lt (ordering_then o (nat_cmp top rel))) is)
+    by from rel apart Equal is = let no : true ≡ false = sym (ap is_eq is) ∙ apart in cc no
+    by from rel apart Greater is =
+        let before : key_cmp from l.0 ≡ Less = ap (key_cmp from) (sym own) ∙ key_cmp_total.antisymm from key ∙ ap ordering_reverse is in
+        first.2 from rel refl (ap (λ o. is_lt (ordering_then o (nat_cmp rel l.1))) before)
+own_first schema now key top l (Some m) valid first own behind fits = other_first schema now key (Some (key, top)) m behind (apart (same_key key m.0) refl)
+  where
+    past : (o : Ordering) → o ≡ nat_cmp top m.1 → is_lt o ≡ true → ⊥
+    past Less is lt = let above : top < m.1 = ranked top m.1 Less is in let most : m.1 ≤ top = fits m refl in omega (arith, above, most)
+    past Equal is lt = cc lt
+    past Greater is lt = cc lt
+
+    apart : (b : Bool) → same_key key m.0 ≡ b → same_key key m.0 ≡ false
+    apart false is = is
+    apart true is = absurd (past (nat_cmp top m.1) refl (ap (λ o. is_lt (ordering_then o (nat_cmp top m.1))) (sym (is_equal (key_cmp key m.0) is)) ∙ behind.0))
+
+-- ---- keys that differ, and numbers of 32 bits
+
+not_so : (b : Bool) → not b ≡ true → b ≡ false
+not_so true e = cc e
+not_so false e = refl
+
+so : (b : Bool) → not b ≡ false → b ≡ true
+so true e = refl
+so false e = cc e
+
+pub is_apart : (key from : Key) → not (same_key from key) ≡ true → same_key key from ≡ false
+is_apart key from e = turned_key key from ∙ not_so (same_key from key) e
+
+pub is_own : (key from : Key) → not (same_key from key) ≡ false → key ≡ from
+is_own key from e = sym (key_is from key (so (same_key from key) e))
+
+pub fits_top : (other : Option (Key × ℕ)) → FitsLink other → (m : Key × ℕ) → other ≡ Some m → m.1 ≤ 2 ^ 32 - 1
+fits_top other fits m is = let below : m.1 < 2 ^ 32 = subst FitsLink is fits in omega (arith, below)

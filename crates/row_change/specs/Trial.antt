@@ -1,0 +1,51 @@
+-- What an operation over a recorder says of every world that may stand behind its view.
+use Rattle.std.specs.Prelude.{◌≡◌, ℕ, ⊤, IsTrue, IsFalse, List, Option, Result, Ok, Err}
+use Rattle.ident_rules.specs.declared.key.Key.{Key}
+use Rattle.resource_schema.specs.declared.schema.Schema.{Schema}
+use Rattle.world_cells.specs.declared.keys.CellKey.{CellKey}
+use Rattle.world_cells.specs.declared.sets.ReadSet.{ReadSet}
+use Rattle.world_cells.specs.World.{World, cell_at}
+use Rattle.world_cells.specs.Reads.{Cells, covers, AgreeOn, Leads}
+use Rattle.error_objects.specs.declared.refusals.Refusal.{Refusal}
+use Rattle.error_objects.specs.declared.refusals.Read.{Read}
+use Rattle.error_objects.specs.declared.refusals.Read.TheVariants as read
+use Rattle.task_forms.specs.declared.operations.Operation.{Operation}
+use Rattle.store_model.specs.Valid.{IsValid}
+use Rattle.store_model.specs.Change.{Lids, Changed, apply}
+use Rattle.store_model.specs.Run.{refusal_under}
+use Rattle.store_model.specs.Reach.{reach_operation}
+use Rattle.view_reads.specs.Recording.{Recording}
+use Rattle.row_change.specs.declared.stops.Stop.{Stop}
+use Rattle.row_change.specs.declared.stops.Stop.TheVariants.{Refused, NoMemory}
+
+-- A world may stand behind the view: it is valid and agrees with it on the reads. Under the earlier writes it is another valid world, now.
+pub record StandsBehind (schema : Schema) (store : Cells) (reads : ReadSet) (w now : World) : Type 0 where
+  pub valid : IsValid schema w
+  pub agrees : AgreeOn reads (cell_at schema w) store
+  pub now_valid : IsValid schema now
+
+-- The outcome of an operation at its pointer is the definition's, and after it the writes lead to the definition's world.
+abbrev pub IsOutcome : {V : Type 0} → Schema → List ℕ → Result Changed Refusal → Read (Option Key) → Lids → World → Recording V → Type 0
+IsOutcome schema at (Ok changed) (read.Good key) lids w after = (key ≡ changed.key) × (lids ≡ changed.lids) × Leads (cell_at schema w) after.writes (cell_at schema changed.world)
+IsOutcome schema at (Ok changed) (read.Refused refusal) lids w after = ⊥
+IsOutcome schema at (Err expected) (read.Good key) lids w after = ⊥
+IsOutcome schema at (Err expected) (read.Refused refusal) lids w after = refusal ≡ refusal_under at expected
+IsOutcome schema at outcome read.NoMemory lids w after = ⊤
+
+-- In every world that may stand behind the view, as the earlier writes changed it, the outcome is the definition's.
+abbrev pub TellsChange : {V : Type 0} → Schema → (V → Cells) → List ℕ → Operation → Lids → Lids → Recording V → Recording V → Read (Option Key) → Type 0
+TellsChange schema cells at operation old_lids new_lids before after result =
+    (w now : World) → StandsBehind schema (cells before.store) after.reads w now → Leads (cell_at schema w) before.writes (cell_at schema now)
+    → IsOutcome schema at (apply schema now operation old_lids) result new_lids w after
+
+-- Each key that the operation read lies in its reach, in every world with the view's cells, as the earlier writes changed it.
+abbrev pub StaysInReach : {V : Type 0} → Schema → (V → Cells) → Operation → Lids → Recording V → Recording V → Type 0
+StaysInReach schema cells operation lids before after =
+    (w now : World) → IsValid schema w → ((k : CellKey) → cell_at schema w k ≡ cells before.store k) → IsValid schema now → Leads (cell_at schema w) before.writes (cell_at schema now)
+    → (k : CellKey) → IsTrue (covers after.reads k) → IsFalse (covers before.reads k) → IsTrue (reach_operation now lids operation k)
+
+-- what a step that may stop answers
+abbrev pub read_of : {T : Type 0} → Result T Stop → Read T
+read_of (Ok x) = read.Good x
+read_of (Err (Refused refusal)) = read.Refused refusal
+read_of (Err NoMemory) = read.NoMemory

@@ -1,0 +1,17 @@
+//! One operation of a store over a recorder: what it refuses, what it changes, and what it reads.
+#![tactic(auto)]
+
+mod changes;
+mod creates;
+mod finds;
+mod linkages;
+mod members;
+mod references;
+mod removes;
+mod stops;
+#[cfg(test)]
+mod tests;
+mod updates;
+mod writes;
+
+pub use changes::change;
