@@ -10,8 +10,10 @@ cd "$(dirname "$0")/.." || exit 1
 # Tries the bugs of a crate in the place of its must-fail edits, which it puts back at the end.
 try_crate() {
     kept=$(mktemp -d)
+    crate=$1
+    mkdir -p "crates/$1/must-fail"
     mv "crates/$1/must-fail" "$kept/edits"
-    trap 'rm -rf "crates/$1/must-fail"; mv "$kept/edits" "crates/$1/must-fail"; rmdir "$kept"' EXIT INT TERM
+    trap 'rm -rf "crates/$crate/must-fail"; mv "$kept/edits" "crates/$crate/must-fail"; rmdir "$kept"' EXIT INT TERM
     mkdir "crates/$1/must-fail"
     cp docs/planted/"$1"/*.edit "crates/$1/must-fail/"
     rt must-fail "$1"
@@ -57,7 +59,7 @@ for folder in docs/planted/*/; do
         grep -qE '^bug: .' "$bug" || { echo "planted: $bug has no line bug:"; bad=1; }
         grep -qE '^verdict: (refused|tested .+|same .+|open .+)$' "$bug" || { echo "planted: $bug has no verdict"; bad=1; }
     done
-    edits=$(ls "crates/$crate/must-fail" | wc -l)
+    edits=$(ls "crates/$crate/must-fail" 2>/dev/null | wc -l)
     echo "| \`$crate\` | $edits | $(ls "$folder" | wc -l) | $(count "$crate" refused) | $(count "$crate" tested) |" \
         "$(count "$crate" same) | $(count "$crate" open) |" >>"$made"
 done

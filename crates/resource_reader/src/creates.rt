@@ -1,4 +1,4 @@
-ghost use Rattle.std.specs.Prelude.{◌≡◌, option_map};
+ghost use Rattle.std.specs.Prelude.{◌≡◌, Some};
 ghost use Rattle.serde_json.specs.View.{view};
 ghost use Rattle.request_model.specs.Documents.{kind_named, resource_kind, is_lid, client_id, local_id, create_of};
 ghost use Rattle.resource_reader.specs.Reads.{Reads};
@@ -65,13 +65,10 @@ fn client_id(
     schema: &Schema,
     kind: u32,
     at: &str,
-    value: Option<&Value>,
+    value: &Value,
 ) -> Result<Option<Id>, Stop>
-    ensures { Reads result (client_id schema.now kind at.now (option_map (λ v. view v.now) value.entry)) }
+    ensures { Reads result (client_id schema.now kind at.now (Some (view value.now))) }
 {
-    let Some(value) = value else {
-        return Ok(None);
-    };
     let Some(text) = text_of(value) else {
         return Err(bad_document(alloc, at));
     };
@@ -95,12 +92,9 @@ fn is_lid(text: &str) -> bool
 }
 
 /// The local id that the client gave (JSON:API 1.1, "Identification").
-fn local_id(alloc: Global, at: &str, value: Option<&Value>) -> Result<Option<Text>, Stop>
-    ensures { Reads result (local_id at.now (option_map (λ v. view v.now) value.entry)) }
+fn local_id(alloc: Global, at: &str, value: &Value) -> Result<Option<Text>, Stop>
+    ensures { Reads result (local_id at.now (Some (view value.now))) }
 {
-    let Some(value) = value else {
-        return Ok(None);
-    };
     let Some(text) = text_of(value) else {
         return Err(bad_document(alloc, at));
     };
@@ -120,16 +114,22 @@ fn client_id_in(
 ) -> Result<Option<Id>, Stop>
     ensures { Reads result (client_id_in schema.now kind at.now (view value.now)) }
 {
+    let Some(given) = member(value, "id") else {
+        return Ok(None);
+    };
     let place = member_pointer(alloc, at, "id")?;
-    client_id(alloc, schema, kind, place.as_str(), member(value, "id"))
+    client_id(alloc, schema, kind, place.as_str(), given)
 }
 
 /// The local id, at its member.
 fn local_id_in(alloc: Global, at: &str, value: &Value) -> Result<Option<Text>, Stop>
     ensures { Reads result (local_id_in at.now (view value.now)) }
 {
+    let Some(given) = member(value, "lid") else {
+        return Ok(None);
+    };
     let place = member_pointer(alloc, at, "lid")?;
-    local_id(alloc, place.as_str(), member(value, "lid"))
+    local_id(alloc, place.as_str(), given)
 }
 
 /// A new resource, by the rules in their order.

@@ -75,10 +75,10 @@ pub fn read_given_links(
 ) -> Result<List<(u32, List<Member>)>, Stop>
     ensures { Reads result (given_links schema.now kind at.now (view value.now)) }
 {
-    let group = member_pointer(alloc, at, "relationships")?;
     match member(value, "relationships") {
         None => Ok(List::from_vec(Vec::new(alloc))),
         Some(given) => {
+            let group = member_pointer(alloc, at, "relationships")?;
             let members = object_at(alloc, group.as_str(), given)?;
             read_relationships(alloc, schema, kind, group.as_str(), members)
         }

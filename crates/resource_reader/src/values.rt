@@ -89,10 +89,10 @@ pub fn read_given_values(
 ) -> Result<List<(u32, AttrValue)>, Stop>
     ensures { Reads result (given_values schema.now kind at.now (view value.now)) }
 {
-    let group = member_pointer(alloc, at, "attributes")?;
     match member(value, "attributes") {
         None => Ok(List::from_vec(Vec::new(alloc))),
         Some(given) => {
+            let group = member_pointer(alloc, at, "attributes")?;
             let members = object_at(alloc, group.as_str(), given)?;
             read_attributes(alloc, schema, kind, group.as_str(), members)
         }
