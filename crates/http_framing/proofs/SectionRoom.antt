@@ -1,4 +1,4 @@
--- A section of fields at the front of a buffer; and a field has three bytes at least.
+-- A section of fields at the front of a buffer.
 use Rattle.std.proofs.Common.{◌≡◌, ℕ, ◌+◌, ◌*◌, ◌<◌, ◌≤◌, List, [], ◌∷◌, ◌++◌, length, take, drop, ap, subst, arith, append-nil, length-append, length-take, All}
 use Rattle.std.specs.List.{flat_map}
 use Rattle.std.proofs.lemmas.List.Elements.{All-head, All-tail}
@@ -6,20 +6,8 @@ use Rattle.httparse.specs.Grammar.{Field, IsField, LineEnd, crlf, lf, print_end,
 use Rattle.httparse.specs.Spans.{SectionExceeds, IsSectionAt}
 use Rattle.httparse.specs.declared.spans.HeaderSpan.{HeaderSpan}
 use Rattle.http_model.specs.Bodies.{trailer_limit, TakesTrailers}
+use Rattle.http_model.specs.MessageLaws.{fields_length}
 use Rattle.http_framing.specs.FillLaws.{whole_front}
-
-fields_length : (fields : List Field) → All IsField fields → 3 * length fields ≤ length (flat_map print_field fields)
-fields_length [] h = omega arith
-fields_length (f ∷ fields) h =
-    omega (arith, fields_length fields (All-tail IsField f fields h), (All-head IsField f fields h).name.0, length-append (print_field f) (flat_map print_field fields), field_length f)
-  where
-    end_length : (e : LineEnd) → 0 < length (print_end e)
-    end_length crlf = omega arith
-    end_length lf = omega arith
-
-    field_length : (f : Field) → length f.name + 2 ≤ length (print_field f)
-    field_length f =
-        omega (arith, length-append (f.name ++ 58 ∷ f.raw) (print_end f.end), length-append f.name (58 ∷ f.raw), end_length f.end)
 
 -- the room is enough for the fields of so many bytes
 pub section_room : (p : List ℕ) (room : ℕ) → length p ≤ 3 * room → SectionExceeds room p → ⊥

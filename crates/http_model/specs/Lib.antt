@@ -2,6 +2,7 @@ pub mod Heads
 pub mod Targets
 pub mod Hopeless
 pub mod Blanks
+pub mod MessageLaws
 pub mod Messages
 pub mod Framings
 pub mod Bodies

@@ -1,7 +1,7 @@
 ghost use Rattle.std.specs.Prelude.{◌≡◌, IfOk, option_map};
 ghost use Rattle.serde_json.specs.Find.{get, as_str};
 ghost use Rattle.serde_json.specs.View.{view};
-ghost use Rattle.json_forms.specs.Json.{json_of, int_of};
+ghost use Rattle.json_forms.specs.Json.{json_of, int_of, text_at};
 
 use ident_rules::NoMemory;
 use serde_json::Value;
@@ -36,6 +36,15 @@ pub fn text_of(value: &Value) -> Option<&str>
     ensures { option_map (λ t. t.now) result ≡ as_str (view value.now) }
 {
     value.as_str()
+}
+
+/// The text of the string that is the member of an object with this name (RFC 8259, section 4).
+///
+/// `None` exactly where there is no such member, or it is no string. Takes no memory.
+pub fn text_at<'v>(value: &'v Value, name: &str) -> Option<&'v str>
+    ensures { option_map (λ t. t.now) result ≡ text_at name.now (view value.now) }
+{
+    text_of(member(value, name)?)
 }
 
 /// The integer that a number is (RFC 8259, section 6).

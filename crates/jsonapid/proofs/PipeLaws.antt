@@ -8,22 +8,10 @@ use Rattle.http_messages.specs.declared.messages.Reply.{Reply}
 use Rattle.http_messages.specs.declared.ends.SessionEnd.{SessionEnd}
 use Rattle.http_messages.specs.declared.ends.SessionEnd.TheVariants.{Closed, Refused, CutShort, ReadFault, WriteFault, NoMemory, Worn}
 use Rattle.http_model.specs.Framings.{closes}
+use Rattle.http_model.specs.MessageLaws.{few_more}
 use Rattle.http_model.specs.Exchanges.{Plans, Planned, planned_reply, planned_task, Exchange, IsAnswer, Runs, closes_by, StaysOpen, LastCloses, entries_of}
 use Rattle.http_model.specs.Served.{Served, EndIs, CanBeCut, in_reply, in_refusal, in_last}
 use Rattle.task_forms.specs.Desks.{last_number}
-
-below_last : (x : Bool) (n : ℕ) (b : Bool) → eqb n 1000000 ≡ b → IsFalse (x || b) → n ≤ 1000000 → n < 1000000
-below_last x n true e h le = absurd (false≢true (sym h ∙ or-true x))
-  where
-    or-true : (y : Bool) → (y || true) ≡ true
-    or-true true = refl
-    or-true false = refl
-below_last x n false e h le = let other : n ≢ 1000000 = λ same. false≢true (sym e ∙ eq-eqb n 1000000 same) in omega (arith, other)
-
--- a message that does not close is not the last that may come
-few_more : (m : Message) (n : ℕ) → n ≤ 1000000 → IsFalse (closes m n) → n < 1000000
-unfolding closes
-few_more m n le h = below_last _ n (eqb n 1000000) refl h le
 
 module _ {T E : Type 0} (plans : Plans T E) where
   -- an answer makes at most one entry

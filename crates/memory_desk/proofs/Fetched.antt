@@ -19,7 +19,7 @@ use Rattle.world_cells.specs.declared.rows.Link.{Link}
 use Rattle.world_cells.specs.declared.rows.Link.TheVariants.{One, Many}
 use Rattle.world_cells.specs.declared.cells.Cell.TheVariants as cell
 use Rattle.world_cells.specs.World.{World, row_at, no_link, link_at, ids_of}
-use Rattle.request_model.specs.Queries.{no_query}
+use Rattle.task_forms.specs.Queries.{no_query}
 use Rattle.store_model.specs.Resource.{linkage}
 use Rattle.store_model.specs.Valid.{IsValid, IsLinkOf}
 use Rattle.store_model.specs.Pages.{rows_at, first_item}

@@ -15,7 +15,7 @@ use Rattle.task_forms.specs.declared.tasks.Task.{Task}
 use Rattle.task_forms.specs.declared.tasks.Task.TheVariants as task
 use Rattle.task_forms.specs.Fit.{IsFit}
 use Rattle.task_forms.specs.Meaning.{Meaning}
-use Rattle.request_model.specs.Queries.{no_query}
+use Rattle.task_forms.specs.Queries.{no_query}
 use Rattle.store_model.specs.StoreMeaning.{meaning_of}
 
 abbrev pub IsAnsweredTarget : Schema → Target → Type 0

@@ -4,7 +4,7 @@ use Rattle.resource_schema.specs.declared.schema.Schema.{Schema}
 use Rattle.world_cells.specs.declared.keys.CellKey.{CellKey}
 use Rattle.resource_schema.specs.declared.targets.Target.{Target}
 use Rattle.http_messages.specs.declared.messages.Reply.{Reply}
-use Rattle.request_model.specs.Queries.{no_query}
+use Rattle.task_forms.specs.Queries.{no_query}
 use Rattle.store_model.specs.Valid.{IsValid}
 use Rattle.store_model.specs.Answer.{fetch_reply, answer, effect}
 use Rattle.world_cells.specs.World.{World, cell_at}

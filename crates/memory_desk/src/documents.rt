@@ -8,37 +8,19 @@ ghost use Rattle.error_objects.specs.ErrorReply.{only, error_reply};
 ghost use Rattle.http_messages.specs.declared.messages.Content.TheVariants as content;
 ghost use Rattle.http_messages.specs.declared.messages.Allow.TheVariants as allow;
 ghost use Rattle.resource_schema.specs.Kinds.{target_of};
-ghost use Rattle.request_model.specs.Queries.{no_query};
 ghost use Rattle.store_model.specs.Resource.{linkage, resource_path};
 ghost use Rattle.store_model.specs.Answer.{row_data, ok_reply, empty_reply, created_reply, updated_reply};
 
 use error_objects::{Blame, Code, Refusal, error_reply};
 use http_messages::{Allow, Content, Reply};
-use ident_rules::{Bytes, List, NoMemory};
+use ident_rules::{Bytes, NoMemory};
 use json_forms::render;
 use resource_objects::{linkage_value, resource_value};
 use resource_schema::Schema;
 use serde_json::{Value, json};
 use std::alloc::Global;
-use task_forms::{Page, Query};
+use task_forms::Query;
 use world_cells::{Link, Row};
-
-/// A query that asks for nothing.
-pub fn no_query(alloc: Global) -> Query
-    ensures { result ≡ no_query }
-{
-    Query {
-        pairs: List::from_vec(Vec::new(alloc)),
-        include: None,
-        fields: List::from_vec(Vec::new(alloc)),
-        sort: List::from_vec(Vec::new(alloc)),
-        page: Page {
-            size: 50,
-            after: None,
-            before: None,
-        },
-    }
-}
 
 /// The document with that primary data.
 fn document(alloc: Global, value: Value) -> Result<Value, NoMemory>
@@ -60,7 +42,7 @@ fn document_text(alloc: Global, value: Value) -> Result<Bytes, NoMemory>
 pub fn row_text(alloc: Global, schema: &Schema, row: &Row) -> Result<Bytes, NoMemory>
     ensures { IfOk result (λ b. b ≡ compact_text (row_data schema.now row.now)) }
 {
-    let query = no_query(alloc);
+    let query = Query::none(alloc);
     let value = resource_value(alloc, schema, row, &query)?;
     document_text(alloc, value)
 }

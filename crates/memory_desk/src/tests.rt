@@ -3,13 +3,12 @@ ghost use Rattle.resource_schema.specs.Kinds.{notes};
 ghost use Rattle.memory_desk.specs.Answered.{desk_meaning};
 
 use crate::MemoryDesk;
-use crate::documents::no_query;
 use http_messages::Reply;
 use ident_rules::{Id, Key, List, NoMemory, Text};
 use resource_schema::{AttrValue, Schema, Target};
 use std::alloc::{AllocError, Global};
 use std::test::Fail;
-use task_forms::{Desk, Fetch, Named, Operation, ReplyForm, Task, Where, Who};
+use task_forms::{Desk, Fetch, Named, Operation, Query, ReplyForm, Task, Where, Who};
 
 // What is asked of the desk.
 #[derive(Clone, Copy)]
@@ -58,7 +57,7 @@ fn fetch_note(alloc: Global, number: u64) -> Task
 {
     Task::Fetch(Fetch {
         target: Target::Resource(note_key(number)),
-        query: no_query(alloc),
+        query: Query::none(alloc),
     })
 }
 

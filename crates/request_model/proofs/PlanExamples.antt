@@ -14,7 +14,7 @@ use Rattle.task_forms.specs.declared.tasks.Plan.TheVariants.{Fixed, Run}
 use Rattle.http_messages.specs.declared.messages.Content.TheVariants as content
 use Rattle.http_messages.specs.declared.messages.Allow.{Allow}
 use Rattle.http_messages.specs.declared.messages.Allow.TheVariants as allow
-use Rattle.request_model.specs.Queries.{no_query}
+use Rattle.task_forms.specs.Queries.{no_query}
 use Rattle.resource_schema.specs.Kinds.{notes}
 use Rattle.request_model.specs.Plans.{planned}
 use Rattle.request_model.proofs.OnLiterals.{requests_on_literals}

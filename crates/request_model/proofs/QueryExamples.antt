@@ -8,7 +8,8 @@ use Rattle.error_objects.specs.declared.refusals.Refusal.{Refusal}
 use Rattle.task_forms.specs.declared.queries.Query.{Query}
 use Rattle.resource_schema.specs.declared.values.AttrValue.TheVariants as value
 use Rattle.error_objects.specs.Refusals.{at_parameter}
-use Rattle.request_model.specs.Queries.{query_of, first_page, pairs_of, no_query}
+use Rattle.task_forms.specs.Queries.{first_page, no_query}
+use Rattle.request_model.specs.Queries.{query_of, pairs_of}
 use Rattle.request_model.proofs.OnLiterals.{requests_on_literals}
 use Rattle.request_model.proofs.Blog.{blog}
 

@@ -28,7 +28,8 @@ use Rattle.request_model.specs.Words.{some_if, all_some, begins, parts_at, comma
 use Rattle.request_model.specs.Targets.{IsKnownTarget}
 use Rattle.request_model.specs.Results.{err_if}
 use Rattle.request_model.specs.Cursors.{place_of_cursor}
-use Rattle.request_model.specs.Queries.{pairs_of, parameter_of, has_resources, is_page, primary_kind, knows, known_parameter, in_brackets, listed, rels_from, path_of, paths_of, field_set_of, sort_key_of, sort_keys_of, are_distinct, page_size_of, first_page, no_query, with_query, or_bad, with_parameter, has_name, with_pair, with_pairs, sort_forms, place_at, query_of}
+use Rattle.task_forms.specs.Queries.{first_page, no_query}
+use Rattle.request_model.specs.Queries.{pairs_of, parameter_of, has_resources, is_page, primary_kind, knows, known_parameter, in_brackets, listed, rels_from, path_of, paths_of, field_set_of, sort_key_of, sort_keys_of, are_distinct, page_size_of, with_query, or_bad, with_parameter, has_name, with_pair, with_pairs, sort_forms, place_at, query_of}
 use Rattle.request_model.proofs.Inversions.{bind-Ok, then-Ok, map-Ok, err_if-Ok, ok_or-Ok, bind-Some, map-Some, some_if-Some, some_or_none, all_some-zip}
 use Rattle.request_model.proofs.Zips.{zip-right, all-always, position-found}
 use Rattle.request_model.proofs.CursorFits.{within-found, cursor-fits}

@@ -42,7 +42,8 @@ use Rattle.request_model.specs.Results.{◌>>=◌, ◌>>◌, err_if}
 use Rattle.request_model.specs.Values.{value_from}
 use Rattle.request_model.specs.Targets.{target_of_path, allow_of, need_of}
 use Rattle.request_model.specs.Negotiation.{content, acceptable}
-use Rattle.request_model.specs.Queries.{pairs_of, query_of, no_parameter, known_parameter, or_bad, with_parameter, has_name, primary_kind, with_pair, with_pairs, sort_forms, place_at, paths_of, field_set_of, in_brackets, sort_keys_of, page_size_of, no_query}
+use Rattle.task_forms.specs.Queries.{no_query}
+use Rattle.request_model.specs.Queries.{pairs_of, query_of, no_parameter, known_parameter, or_bad, with_parameter, has_name, primary_kind, with_pair, with_pairs, sort_forms, place_at, paths_of, field_set_of, in_brackets, sort_keys_of, page_size_of}
 use Rattle.request_model.specs.Documents.{bad_document, object_at, text_member, fields_at, named_in, keeps_rule, identifier, to_one, indexed, to_many, linkage, given_value, given_values, given_link, given_links, all_values, kind_named, resource_kind, client_id, is_lid, local_id, create_of, name_member, same_named, own_name, lid_in, target_of_update, who_of, update_of}
 use Rattle.request_model.specs.OperationLists.{op_of, op_at, optional_text, aim_of_ref, ref_aim, href_aim, aim_by, if_many, act_of, with_data, operation_by, operation_of, absent, list_pointer, operations_of}
 use Rattle.request_model.specs.Plans.{body_value, primary_data, by_path, data_pointer, update_task, change_of, judged, is_fetch, none_or_err, fetch_of, change_without_query, task_of, is_list}

@@ -13,5 +13,6 @@ pub mod OperationLists
 pub mod Plans
 pub mod FirstErrors
 pub mod Pieces
+pub mod Links
 pub mod ListLaws
 pub mod ReadNames

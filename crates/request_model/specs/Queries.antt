@@ -19,6 +19,7 @@ use Rattle.task_forms.specs.declared.queries.Path.{Path}
 use Rattle.task_forms.specs.declared.queries.SortKey.{SortKey}
 use Rattle.task_forms.specs.declared.queries.Page.{Page}
 use Rattle.task_forms.specs.declared.queries.Query.{Query}
+use Rattle.task_forms.specs.Queries.{first_page, no_query}
 use Rattle.error_objects.specs.declared.codes.Code.{Code}
 use Rattle.error_objects.specs.declared.codes.Code.TheVariants as code
 use Rattle.error_objects.specs.declared.refusals.Refusal.{Refusal}
@@ -145,14 +146,6 @@ page_size_of value =
     some_if (nat_lt 0 (length value) && nat_le (length value) 9 && list_all is_ascii_digit value && nat_le 1 n && nat_le n 200) n
 
 -- ---- reading from left to right
-
--- a page of 50 items from the first on
-abbrev pub first_page : Page
-first_page = record { size = 50; after = None; before = None }
-
--- the query without a pair
-abbrev pub no_query : Query
-no_query = record { pairs = []; include = None; fields = []; sort = []; page = first_page }
 
 -- what is asked, with another query
 abbrev pub with_query : Asked → Query → Asked

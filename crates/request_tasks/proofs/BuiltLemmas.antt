@@ -20,7 +20,8 @@ use Rattle.request_model.specs.Words.{is_any, result_map}
 use Rattle.request_model.specs.Results.{◌>>=◌, ◌>>◌, err_if}
 use Rattle.request_model.specs.Targets.{split_target, target_of_path, allow_of, allows, need_of}
 use Rattle.request_model.specs.Negotiation.{content, acceptable}
-use Rattle.request_model.specs.Queries.{is_page, no_query, pairs_of, no_parameter}
+use Rattle.task_forms.specs.Queries.{no_query}
+use Rattle.request_model.specs.Queries.{is_page, pairs_of, no_parameter}
 use Rattle.request_model.specs.Documents.{create_of, update_of, linkage}
 use Rattle.request_model.specs.Plans.{primary_data, change, by_path, links_operation, data_pointer, update_task, change_of, judged, is_fetch, is_list, none_or_err, fetch_of, change_without_query, task_of, or_reply, not_allowed, task_or_reply, plan_by, planned}
 use Rattle.request_tasks.specs.BuiltPlans.{is_built, task_so_far, task_or_reply_so_far, planned_so_far, ShowsOne, IsBuiltTask}

@@ -4,7 +4,8 @@ use Rattle.std.proofs.Common.{◌≡◌, refl}
 use Rattle.form_urlencoded.specs.Form.{raw_pairs, split}
 use Rattle.resource_schema.specs.declared.schema.Schema.{Schema}
 use Rattle.resource_schema.specs.declared.targets.Target.{Target}
-use Rattle.request_model.specs.Queries.{pairs_of, query_of, no_query}
+use Rattle.task_forms.specs.Queries.{no_query}
+use Rattle.request_model.specs.Queries.{pairs_of, query_of}
 
 no_raw_pairs : raw_pairs [] ≡ []
 unfolding raw_pairs split

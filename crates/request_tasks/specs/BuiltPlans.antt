@@ -18,7 +18,8 @@ use Rattle.request_model.specs.Words.{is_any}
 use Rattle.request_model.specs.Results.{◌>>=◌, ◌>>◌, err_if}
 use Rattle.request_model.specs.Targets.{split_target, target_of_path, allow_of, allows, need_of}
 use Rattle.request_model.specs.Negotiation.{content, acceptable}
-use Rattle.request_model.specs.Queries.{is_page, no_query}
+use Rattle.task_forms.specs.Queries.{no_query}
+use Rattle.request_model.specs.Queries.{is_page}
 use Rattle.request_model.specs.Plans.{judged, is_fetch, is_list, fetch_of, change_without_query, or_reply, not_allowed, plan_by}
 
 -- no query, no list of operations, and no fetch of a page

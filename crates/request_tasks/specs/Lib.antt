@@ -1,2 +1,1 @@
 pub mod BuiltPlans
-pub mod Stops

@@ -12,13 +12,12 @@ ghost use Rattle.request_model.specs.Documents.{bad_document, create_of, update_
 ghost use Rattle.request_model.specs.Plans.{body_value, by_path, change, change_of, change_without_query, data_pointer, is_list, links_operation, update_task};
 ghost use Rattle.request_model.specs.Words.{result_map};
 ghost use Rattle.resource_reader.specs.Reads.{IsReadVec};
-ghost use Rattle.request_tasks.specs.Stops.{Gives};
+ghost use Rattle.ident_rules.specs.Stops.{Gives};
 
 use crate::replies::{refuse, refuse_document};
-use crate::stops::Stop;
 use error_objects::{Code, Read, Refusal};
 use http_messages::Message;
-use ident_rules::{Key, List, NoMemory};
+use ident_rules::{Key, List, NoMemory, Stop};
 use json_forms::{member, parse};
 use resource_reader::{read_create, read_members, read_update};
 use resource_schema::{Schema, Target};

@@ -1,12 +1,11 @@
 ghost use Rattle.std.specs.Prelude.{◌≡◌, [], Ok};
 ghost use Rattle.resource_schema.specs.declared.schema.Schema.{Schema};
 ghost use Rattle.request_model.specs.Plans.{fetch_of, is_fetch};
-ghost use Rattle.request_model.specs.Queries.{is_page, no_query};
+ghost use Rattle.request_model.specs.Queries.{is_page};
 
-use ident_rules::List;
 use resource_schema::{Schema, Target};
 use std::alloc::Global;
-use task_forms::{Fetch, Page, Query, Task};
+use task_forms::{Fetch, Query, Task};
 
 /// GET and HEAD (JSON:API 1.1, "Fetching Data").
 pub fn is_fetch(method: &str) -> bool
@@ -26,29 +25,12 @@ pub fn is_page(schema: &Schema, target: &Target) -> bool
     }
 }
 
-/// The query without a pair.
-fn no_query(alloc: Global) -> Query
-    ensures { result ≡ no_query }
-{
-    Query {
-        pairs: List::from_vec(Vec::new(alloc)),
-        include: None,
-        fields: List::from_vec(Vec::new(alloc)),
-        sort: List::from_vec(Vec::new(alloc)),
-        page: Page {
-            size: 50,
-            after: None,
-            before: None,
-        },
-    }
-}
-
 /// The task of GET and HEAD without a query.
 pub fn fetch_of(alloc: Global, target: &Target) -> Task
     ensures { (schema : Schema) → fetch_of schema target.now [] ≡ Ok result }
 {
     Task::Fetch(Fetch {
         target: *target,
-        query: no_query(alloc),
+        query: Query::none(alloc),
     })
 }

@@ -7,7 +7,6 @@ mod fetches;
 mod laws;
 mod planner;
 mod replies;
-mod stops;
 mod tasks;
 #[cfg(test)]
 mod tests;

@@ -5,10 +5,9 @@ ghost use Rattle.task_forms.specs.declared.tasks.Plan.TheVariants.{Run};
 ghost use Rattle.request_tasks.specs.BuiltPlans.{planned_so_far, IsBuiltTask};
 
 use crate::laws::{built_task_is_fit, planned_task_is_built};
-use crate::stops::Stop;
 use crate::tasks::task_or_reply_so_far;
 use http_messages::Message;
-use ident_rules::NoMemory;
+use ident_rules::{NoMemory, Stop};
 use resource_schema::Schema;
 use std::alloc::Global;
 use std::marker::Model;

@@ -5,12 +5,11 @@ ghost use Rattle.error_objects.specs.Refusals.{at_header, refusal};
 ghost use Rattle.task_forms.specs.declared.tasks.Task.{Task};
 ghost use Rattle.request_model.specs.Documents.{bad_document};
 ghost use Rattle.request_model.specs.Plans.{not_allowed, or_reply};
-ghost use Rattle.request_tasks.specs.Stops.{IsStop, Stops};
+ghost use Rattle.ident_rules.specs.Stops.{IsStop, Stops};
 
-use crate::stops::Stop;
 use error_objects::{Blame, Code, Refusal, error_reply};
 use http_messages::{Allow, Reply};
-use ident_rules::{NoMemory, Text};
+use ident_rules::{NoMemory, Stop, Text};
 use std::alloc::Global;
 
 /// A refusal that names nothing.

@@ -1,16 +1,16 @@
 ghost use Rattle.std.specs.Prelude.{◌≡◌, Some};
 ghost use Rattle.serde_json.specs.View.{view};
 ghost use Rattle.request_model.specs.Documents.{kind_named, resource_kind, is_lid, client_id, local_id, create_of};
-ghost use Rattle.resource_reader.specs.Reads.{Reads};
+ghost use Rattle.ident_rules.specs.Stops.{Gives};
 ghost use Rattle.resource_reader.specs.OwnIds.{client_id_in, local_id_in};
 
 use crate::fields::read_given_links;
 use crate::parts::{id_of, object_at, text_member};
-use crate::stops::{Stop, bad_document, refuse_at, refuse_in};
+use crate::refusals::{bad_document, refuse_at, refuse_in};
 use crate::values::{all_values, read_given_values};
 use document_parts::member_pointer;
-use error_objects::Code;
-use ident_rules::{Id, Text};
+use error_objects::{Code, Refusal};
+use ident_rules::{Id, Stop, Text};
 use json_forms::{member, text_of};
 use resource_schema::Schema;
 use serde_json::Value;
@@ -24,8 +24,8 @@ fn kind_named(
     endpoint: Option<u32>,
     at: &str,
     name: &str,
-) -> Result<u32, Stop>
-    ensures { Reads result (kind_named schema.now endpoint at.now name.now) }
+) -> Result<u32, Stop<Refusal>>
+    ensures { Gives result (kind_named schema.now endpoint at.now name.now) }
 {
     match endpoint {
         Some(kind) => {
@@ -49,8 +49,8 @@ pub fn resource_kind(
     endpoint: Option<u32>,
     at: &str,
     value: &Value,
-) -> Result<u32, Stop>
-    ensures { Reads result (resource_kind schema.now endpoint at.now (view value.now)) }
+) -> Result<u32, Stop<Refusal>>
+    ensures { Gives result (resource_kind schema.now endpoint at.now (view value.now)) }
 {
     object_at(alloc, at, value)?;
     match text_member(alloc, at, "type", value) {
@@ -66,8 +66,8 @@ fn client_id(
     kind: u32,
     at: &str,
     value: &Value,
-) -> Result<Option<Id>, Stop>
-    ensures { Reads result (client_id schema.now kind at.now (Some (view value.now))) }
+) -> Result<Option<Id>, Stop<Refusal>>
+    ensures { Gives result (client_id schema.now kind at.now (Some (view value.now))) }
 {
     let Some(text) = text_of(value) else {
         return Err(bad_document(alloc, at));
@@ -92,8 +92,8 @@ fn is_lid(text: &str) -> bool
 }
 
 /// The local id that the client gave (JSON:API 1.1, "Identification").
-fn local_id(alloc: Global, at: &str, value: &Value) -> Result<Option<Text>, Stop>
-    ensures { Reads result (local_id at.now (Some (view value.now))) }
+fn local_id(alloc: Global, at: &str, value: &Value) -> Result<Option<Text>, Stop<Refusal>>
+    ensures { Gives result (local_id at.now (Some (view value.now))) }
 {
     let Some(text) = text_of(value) else {
         return Err(bad_document(alloc, at));
@@ -111,8 +111,8 @@ fn client_id_in(
     kind: u32,
     at: &str,
     value: &Value,
-) -> Result<Option<Id>, Stop>
-    ensures { Reads result (client_id_in schema.now kind at.now (view value.now)) }
+) -> Result<Option<Id>, Stop<Refusal>>
+    ensures { Gives result (client_id_in schema.now kind at.now (view value.now)) }
 {
     let Some(given) = member(value, "id") else {
         return Ok(None);
@@ -122,8 +122,8 @@ fn client_id_in(
 }
 
 /// The local id, at its member.
-fn local_id_in(alloc: Global, at: &str, value: &Value) -> Result<Option<Text>, Stop>
-    ensures { Reads result (local_id_in at.now (view value.now)) }
+fn local_id_in(alloc: Global, at: &str, value: &Value) -> Result<Option<Text>, Stop<Refusal>>
+    ensures { Gives result (local_id_in at.now (view value.now)) }
 {
     let Some(given) = member(value, "lid") else {
         return Ok(None);
@@ -139,8 +139,8 @@ pub fn create_of(
     endpoint: Option<u32>,
     at: &str,
     value: &Value,
-) -> Result<Operation, Stop>
-    ensures { Reads result (create_of schema.now endpoint at.now (view value.now)) }
+) -> Result<Operation, Stop<Refusal>>
+    ensures { Gives result (create_of schema.now endpoint at.now (view value.now)) }
 {
     let kind = resource_kind(alloc, schema, endpoint, at, value)?;
     let id = client_id_in(alloc, schema, kind, at, value)?;

@@ -1,13 +1,14 @@
 ghost use Rattle.std.specs.Prelude.{◌≡◌, option_map, ℕ};
 ghost use Rattle.serde_json.specs.View.{view};
 ghost use Rattle.request_model.specs.Documents.{named_in, identifier};
-ghost use Rattle.resource_reader.specs.Reads.{Reads};
+ghost use Rattle.ident_rules.specs.Stops.{Gives};
 ghost use Rattle.resource_reader.specs.Names.{named_by_name};
 
-use crate::parts::{id_of, text_in};
-use crate::stops::{Stop, bad_document, refuse_in};
-use error_objects::Code;
-use ident_rules::{Key, Text};
+use crate::parts::id_of;
+use crate::refusals::{bad_document, refuse_in};
+use error_objects::{Code, Refusal};
+use ident_rules::{Key, Stop, Text};
+use json_forms::text_at;
 use resource_schema::Schema;
 use serde_json::Value;
 use std::alloc::Global;
@@ -26,12 +27,12 @@ pub enum NameText<'v> {
 pub fn name_in(value: &Value) -> Option<NameText<'_>>
     ensures { (kind : ℕ) → option_map (named_by_name kind) result ≡ named_in kind (view value.now) }
 {
-    match text_in(value, "id") {
-        Some(id) => match text_in(value, "lid") {
+    match text_at(value, "id") {
+        Some(id) => match text_at(value, "lid") {
             Some(_) => None,
             None => Some(NameText::Id(id)),
         },
-        None => Some(NameText::Lid(text_in(value, "lid")?)),
+        None => Some(NameText::Lid(text_at(value, "lid")?)),
     }
 }
 
@@ -42,10 +43,10 @@ pub fn read_identifier(
     kind: u32,
     at: &str,
     value: &Value,
-) -> Result<Named, Stop>
-    ensures { Reads result (identifier schema.now kind at.now (view value.now)) }
+) -> Result<Named, Stop<Refusal>>
+    ensures { Gives result (identifier schema.now kind at.now (view value.now)) }
 {
-    let Some(word) = text_in(value, "type") else {
+    let Some(word) = text_at(value, "type") else {
         return Err(bad_document(alloc, at));
     };
     let Some(name) = name_in(value) else {

@@ -8,7 +8,7 @@ mod identifiers;
 mod linkages;
 mod parts;
 mod reads;
-mod stops;
+mod refusals;
 #[cfg(test)]
 mod tests;
 mod updates;

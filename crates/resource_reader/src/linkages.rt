@@ -3,13 +3,14 @@ ghost use Rattle.std.specs.List.{enumerate_from};
 ghost use Rattle.serde_json.specs.View.{view};
 ghost use Rattle.request_model.specs.Words.{all_ok};
 ghost use Rattle.request_model.specs.Documents.{to_one, to_many, indexed, linkage};
-ghost use Rattle.resource_reader.specs.Reads.{Reads};
+ghost use Rattle.ident_rules.specs.Stops.{Gives};
 ghost use Rattle.resource_reader.specs.Arrays.{many_of};
 
 use crate::identifiers::read_identifier;
-use crate::stops::{Stop, bad_document};
+use crate::refusals::bad_document;
 use document_parts::item_pointer;
-use ident_rules::List;
+use error_objects::Refusal;
+use ident_rules::{List, Stop};
 use resource_schema::Schema;
 use serde_json::Value;
 use std::alloc::Global;
@@ -22,8 +23,8 @@ fn read_to_one(
     kind: u32,
     at: &str,
     value: &Value,
-) -> Result<List<Member>, Stop>
-    ensures { Reads result (to_one schema.now kind at.now (view value.now)) }
+) -> Result<List<Member>, Stop<Refusal>>
+    ensures { Gives result (to_one schema.now kind at.now (view value.now)) }
 {
     let mut members = Vec::new(alloc);
     match value {
@@ -44,8 +45,8 @@ fn read_indexed(
     at: &str,
     place: u32,
     value: &Value,
-) -> Result<Member, Stop>
-    ensures { Reads result (indexed schema.now kind at.now (place, view value.now)) }
+) -> Result<Member, Stop<Refusal>>
+    ensures { Gives result (indexed schema.now kind at.now (place, view value.now)) }
 {
     let pointer = item_pointer(alloc, at, place)?;
     let named = read_identifier(alloc, schema, kind, pointer.as_str(), value)?;
@@ -62,9 +63,9 @@ fn read_items(
     kind: u32,
     at: &str,
     values: &[Value],
-) -> Result<List<Member>, Stop>
+) -> Result<List<Member>, Stop<Refusal>>
     requires few { length values.now < 2 ^ 32 }
-    ensures { Reads result (all_ok (map (indexed schema.now kind at.now) (enumerate_from 0 (map view values.now)))) }
+    ensures { Gives result (all_ok (map (indexed schema.now kind at.now) (enumerate_from 0 (map view values.now)))) }
 {
     let mut members = Vec::new(alloc);
     for (place, value) in values.iter().enumerate() {
@@ -83,8 +84,8 @@ fn read_array(
     kind: u32,
     at: &str,
     values: &[Value],
-) -> Result<List<Member>, Stop>
-    ensures { Reads result (many_of schema.now kind at.now (map view values.now)) }
+) -> Result<List<Member>, Stop<Refusal>>
+    ensures { Gives result (many_of schema.now kind at.now (map view values.now)) }
 {
     if values.len() > 4_294_967_295 {
         return Err(bad_document(alloc, at));
@@ -99,8 +100,8 @@ fn read_to_many(
     kind: u32,
     at: &str,
     value: &Value,
-) -> Result<List<Member>, Stop>
-    ensures { Reads result (to_many schema.now kind at.now (view value.now)) }
+) -> Result<List<Member>, Stop<Refusal>>
+    ensures { Gives result (to_many schema.now kind at.now (view value.now)) }
 {
     match value.as_array() {
         Some(values) => read_array(alloc, schema, kind, at, values),
@@ -116,8 +117,8 @@ pub fn read_linkage(
     rel: u32,
     at: &str,
     value: &Value,
-) -> Result<List<Member>, Stop>
-    ensures { Reads result (linkage schema.now kind rel at.now (view value.now)) }
+) -> Result<List<Member>, Stop<Refusal>>
+    ensures { Gives result (linkage schema.now kind rel at.now (view value.now)) }
 {
     let target = schema.target_of(kind, rel);
     if schema.is_many(kind, rel) {

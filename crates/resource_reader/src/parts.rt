@@ -1,24 +1,16 @@
 ghost use Rattle.std.specs.Prelude.{◌≡◌, option_map, Option, Some, None};
 ghost use Rattle.serde_json.specs.View.{view, members_view};
-ghost use Rattle.json_forms.specs.Json.{text_at};
 ghost use Rattle.ident_rules.specs.Id.{is_id};
 ghost use Rattle.request_model.specs.Words.{result_map, some_if};
 ghost use Rattle.request_model.specs.Documents.{object_at, text_member};
-ghost use Rattle.resource_reader.specs.Reads.{Reads};
+ghost use Rattle.ident_rules.specs.Stops.{Gives};
 
-use crate::stops::{Stop, bad_document, refuse_in};
-use error_objects::Code;
-use ident_rules::{Id, read_id};
-use json_forms::{member, text_of};
+use crate::refusals::{bad_document, refuse_in};
+use error_objects::{Code, Refusal};
+use ident_rules::{Id, Stop, read_id};
+use json_forms::member;
 use serde_json::{Map, Value};
 use std::alloc::Global;
-
-/// The text that is the member of that name.
-pub fn text_in<'v>(value: &'v Value, name: &str) -> Option<&'v str>
-    ensures { option_map (λ t. t.now) result ≡ text_at name.now (view value.now) }
-{
-    text_of(member(value, name)?)
-}
 
 /// The id that the text is, where it keeps the rule of ids.
 pub fn id_of(text: &str) -> Option<Id>
@@ -32,8 +24,8 @@ pub fn object_at<'v>(
     alloc: Global,
     at: &str,
     value: &'v Value,
-) -> Result<&'v Map<String, Value>, Stop>
-    ensures { Reads (result_map (λ m. members_view m.now.entries) result) (object_at at.now (view value.now)) }
+) -> Result<&'v Map<String, Value>, Stop<Refusal>>
+    ensures { Gives (result_map (λ m. members_view m.now.entries) result) (object_at at.now (view value.now)) }
 {
     match value {
         Value::Object(members) => Ok(members),
@@ -47,8 +39,8 @@ pub fn text_member<'v>(
     at: &str,
     name: &str,
     value: &'v Value,
-) -> Result<&'v str, Stop>
-    ensures { Reads (result_map (λ t. t.now) result) (text_member at.now name.now (view value.now)) }
+) -> Result<&'v str, Stop<Refusal>>
+    ensures { Gives (result_map (λ t. t.now) result) (text_member at.now name.now (view value.now)) }
 {
     match member(value, name) {
         None => Err(bad_document(alloc, at)),

@@ -3,9 +3,9 @@ ghost use Rattle.serde_json.specs.View.{view};
 ghost use Rattle.request_model.specs.Documents as documents;
 ghost use Rattle.resource_reader.specs.Reads.{IsReadVec};
 
+use ident_rules::Stop;
 use crate::creates::create_of;
 use crate::linkages::read_linkage;
-use crate::stops::Stop;
 use crate::updates::update_of;
 use error_objects::Read;
 use resource_schema::Schema;
@@ -30,7 +30,7 @@ pub fn read_create(
 {
     match create_of(alloc, schema, kind, at, value) {
         Ok(operation) => Read::Good(operation),
-        Err(Stop::Refused(refusal)) => Read::Refused(refusal),
+        Err(Stop::Because(refusal)) => Read::Refused(refusal),
         Err(Stop::NoMemory) => Read::NoMemory,
     }
 }
@@ -51,7 +51,7 @@ pub fn read_update(
 {
     match update_of(alloc, schema, who, at, value) {
         Ok(operation) => Read::Good(operation),
-        Err(Stop::Refused(refusal)) => Read::Refused(refusal),
+        Err(Stop::Because(refusal)) => Read::Refused(refusal),
         Err(Stop::NoMemory) => Read::NoMemory,
     }
 }
@@ -70,7 +70,7 @@ pub fn read_members(
 {
     match read_linkage(alloc, schema, kind, rel, at, value) {
         Ok(members) => Read::Good(members.into_vec()),
-        Err(Stop::Refused(refusal)) => Read::Refused(refusal),
+        Err(Stop::Because(refusal)) => Read::Refused(refusal),
         Err(Stop::NoMemory) => Read::NoMemory,
     }
 }

@@ -6,39 +6,29 @@ ghost use Rattle.request_model.specs.Documents.{own_name, is_plain, lid_in, name
 ghost use Rattle.document_parts.specs.Pointers.{member_pointer};
 ghost use Rattle.error_objects.specs.Refusals.{at_pointer};
 ghost use Rattle.error_objects.specs.declared.codes.Code.TheVariants.{IdMismatch};
-ghost use Rattle.resource_reader.specs.Reads.{Reads, IsStop};
+ghost use Rattle.ident_rules.specs.Stops.{Gives, IsStop};
 ghost use Rattle.resource_reader.specs.Names.{named_by_name};
 
 use crate::creates::resource_kind;
 use crate::fields::read_given_links;
 use crate::identifiers::NameText;
 use crate::parts::id_of;
-use crate::stops::{Stop, bad_document, refuse_in};
+use crate::refusals::{bad_document, refuse_in};
 use crate::values::read_given_values;
-use error_objects::Code;
-use ident_rules::{Key, Text};
+use error_objects::{Code, Refusal};
+use ident_rules::{Key, Stop, Text};
 use json_forms::{member, text_of};
 use resource_schema::Schema;
 use serde_json::Value;
 use std::alloc::Global;
 use task_forms::{Named, Operation, Where, Who};
 
-/// The type that a target is of.
-fn kind_of(who: &Who) -> u32
-    ensures { result ≡ kind_of who.now.named }
-{
-    match &who.named {
-        Named::Id(key) => key.kind,
-        Named::Lid(kind, _) => *kind,
-    }
-}
-
 /// The type of a target that something else named.
 fn endpoint_kind(endpoint: &Option<Who>) -> Option<u32>
     ensures { result ≡ option_map (λ who. kind_of who.named) endpoint.now }
 {
     match endpoint {
-        Some(who) => Some(kind_of(who)),
+        Some(who) => Some(who.named.kind()),
         None => None,
     }
 }
@@ -66,8 +56,8 @@ fn own_name<'v>(
     at: &str,
     id: Option<&'v Value>,
     lid: Option<&'v Value>,
-) -> Result<NameText<'v>, Stop>
-    ensures { (kind : ℕ) → Reads (result_map (named_by_name kind) result) (own_name kind at.now (option_map (λ v. view v.now) id.entry) (option_map (λ v. view v.now) lid.entry)) }
+) -> Result<NameText<'v>, Stop<Refusal>>
+    ensures { (kind : ℕ) → Gives (result_map (named_by_name kind) result) (own_name kind at.now (option_map (λ v. view v.now) id.entry) (option_map (λ v. view v.now) lid.entry)) }
 {
     match id {
         Some(id) => {
@@ -108,7 +98,7 @@ fn same_named(named: &Named, name: NameText<'_>) -> bool
 }
 
 /// The refusal of a name that is not the target's.
-fn mismatch(alloc: Global, at: &str, name: NameText<'_>) -> Stop
+fn mismatch(alloc: Global, at: &str, name: NameText<'_>) -> Stop<Refusal>
     ensures { (kind : ℕ) → IsStop result (at_pointer IdMismatch (member_pointer at.now (name_member (named_by_name kind name.entry)))) }
 {
     match name {
@@ -118,8 +108,8 @@ fn mismatch(alloc: Global, at: &str, name: NameText<'_>) -> Stop
 }
 
 /// The target that the data itself names.
-fn own_target(alloc: Global, kind: u32, at: &str, name: NameText<'_>) -> Result<Who, Stop>
-    ensures { Reads result (target_of_update None at.now (named_by_name kind name.entry)) }
+fn own_target(alloc: Global, kind: u32, at: &str, name: NameText<'_>) -> Result<Who, Stop<Refusal>>
+    ensures { Gives result (target_of_update None at.now (named_by_name kind name.entry)) }
 {
     let named = match name {
         NameText::Lid(lid) => Named::Lid(kind, Text::from_str(alloc, lid)?),
@@ -141,8 +131,8 @@ fn target_of_update(
     kind: u32,
     at: &str,
     name: NameText<'_>,
-) -> Result<Who, Stop>
-    ensures { Reads result (target_of_update endpoint at.now (named_by_name kind name.entry)) }
+) -> Result<Who, Stop<Refusal>>
+    ensures { Gives result (target_of_update endpoint at.now (named_by_name kind name.entry)) }
 {
     match endpoint {
         None => own_target(alloc, kind, at, name),
@@ -163,8 +153,8 @@ fn read_target(
     endpoint: Option<Who>,
     at: &str,
     value: &Value,
-) -> Result<Who, Stop>
-    ensures { Reads result (who_of kind endpoint at.now (view value.now)) }
+) -> Result<Who, Stop<Refusal>>
+    ensures { Gives result (who_of kind endpoint at.now (view value.now)) }
 {
     match own_name(alloc, at, member(value, "id"), lid_in(&endpoint, value)) {
         Ok(name) => target_of_update(alloc, endpoint, kind, at, name),
@@ -179,8 +169,8 @@ pub fn update_of(
     endpoint: Option<Who>,
     at: &str,
     value: &Value,
-) -> Result<Operation, Stop>
-    ensures { Reads result (update_of schema.now endpoint at.now (view value.now)) }
+) -> Result<Operation, Stop<Refusal>>
+    ensures { Gives result (update_of schema.now endpoint at.now (view value.now)) }
 {
     let kind = resource_kind(alloc, schema, endpoint_kind(&endpoint), at, value)?;
     let who = read_target(alloc, kind, endpoint, at, value)?;

@@ -6,14 +6,14 @@ ghost use Rattle.serde_json.specs.View.{view};
 ghost use Rattle.request_model.specs.Words.{all_ok, all_some};
 ghost use Rattle.request_model.specs.Documents.{given_value, given_values, value_or_default, all_values};
 ghost use Rattle.document_parts.specs.Walks.{members_in};
-ghost use Rattle.resource_reader.specs.Reads.{Reads};
+ghost use Rattle.ident_rules.specs.Stops.{Gives};
 ghost use Rattle.resource_reader.specs.Fields.{is_field_name, fields_in};
 
 use crate::parts::object_at;
-use crate::stops::{Stop, refuse_in};
+use crate::refusals::refuse_in;
 use document_parts::{member_pointer, read_value};
-use error_objects::Code;
-use ident_rules::{List, NoMemory};
+use error_objects::{Code, Refusal};
+use ident_rules::{List, NoMemory, Stop};
 use json_forms::member;
 use resource_schema::{AttrValue, Attribute, Schema};
 use serde_json::{Map, Value};
@@ -41,8 +41,8 @@ fn read_given_value(
     group: &str,
     name: &str,
     value: &Value,
-) -> Result<(u32, AttrValue), Stop>
-    ensures { Reads result (given_value schema.now kind group.now (name.now, view value.now)) }
+) -> Result<(u32, AttrValue), Stop<Refusal>>
+    ensures { Gives result (given_value schema.now kind group.now (name.now, view value.now)) }
 {
     let Some(number) = schema.attribute_of(kind, name) else {
         return Err(refuse_in(alloc, Code::UnknownField, group, name));
@@ -63,8 +63,8 @@ fn read_attributes(
     kind: u32,
     group: &str,
     members: &Map<String, Value>,
-) -> Result<List<(u32, AttrValue)>, Stop>
-    ensures { Reads result (all_ok (map (given_value schema.now kind group.now) (fields_in (members_in members.now)))) }
+) -> Result<List<(u32, AttrValue)>, Stop<Refusal>>
+    ensures { Gives result (all_ok (map (given_value schema.now kind group.now) (fields_in (members_in members.now)))) }
 {
     let mut values = Vec::new(alloc);
     for (name, value) in members {
@@ -86,8 +86,8 @@ pub fn read_given_values(
     kind: u32,
     at: &str,
     value: &Value,
-) -> Result<List<(u32, AttrValue)>, Stop>
-    ensures { Reads result (given_values schema.now kind at.now (view value.now)) }
+) -> Result<List<(u32, AttrValue)>, Stop<Refusal>>
+    ensures { Gives result (given_values schema.now kind at.now (view value.now)) }
 {
     match member(value, "attributes") {
         None => Ok(List::from_vec(Vec::new(alloc))),

@@ -1,24 +1,10 @@
 ghost use Rattle.std.specs.Prelude.{◌≡◌};
-ghost use Rattle.resource_schema.specs.Kinds.{is_many};
 ghost use Rattle.resource_schema.specs.SchemaRules.{is_one_of};
 ghost use Rattle.request_model.specs.Targets.{allow_of, allows, body_methods, body_of, methods, need_of};
 
 use http_messages::Allow;
 use request_model::Need;
 use resource_schema::{Schema, Target};
-
-/// Whether the relationship of these numbers is to-many. Numbers that the schema does not have are none.
-fn is_many(schema: &Schema, kind: u32, rel: u32) -> bool
-    ensures { result ≡ is_many schema.now kind rel }
-{
-    match schema.kinds().get(kind as usize) {
-        Some(kind) => match kind.relationships.as_slice().get(rel as usize) {
-            Some(relationship) => relationship.many,
-            None => false,
-        },
-        None => false,
-    }
-}
 
 /// The methods that a target answers, as Allow tells them (RFC 9110, section 10.2.1). A relationship to many has more
 /// than one to one. Takes no memory.
@@ -30,7 +16,7 @@ pub fn allow_of(schema: &Schema, target: &Target) -> Allow
         Target::Resource(_) => Allow::Resource,
         Target::Related(_, _) => Allow::Related,
         Target::Linkage(key, rel) => {
-            if is_many(schema, key.kind, *rel) {
+            if schema.is_many(key.kind, *rel) {
                 Allow::Many
             } else {
                 Allow::One

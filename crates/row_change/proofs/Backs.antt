@@ -11,6 +11,7 @@ use Rattle.std.proofs.lemmas.List.{take-append-drop, take_more, take_all, length
 use Rattle.std.proofs.lemmas.List.Folds.{list_any_more, list_any-append}
 use Rattle.ident_rules.specs.declared.key.Key.{Key}
 use Rattle.ident_rules.specs.IdOrder.{id_cmp, id_cmp_ties, id_cmp-IsAntisymmetric}
+use Rattle.ident_rules.specs.IdOrder.{is_equal}
 use Rattle.ident_rules.specs.Key.{key_cmp, key_cmp_total}
 use Rattle.world_cells.specs.declared.keys.CellKey.{CellKey}
 use Rattle.world_cells.specs.declared.cells.Cell.{Cell}
@@ -24,11 +25,6 @@ use Rattle.view_reads.specs.Places.{Wrote}
 use Rattle.row_change.specs.WritesBacks.{back_from, is_back_of, WritesBacks, turned, TurnsBacks}
 
 -- ---- keys that tie
-
-pub is_equal : (o : Ordering) → is_eq o ≡ true → o ≡ Equal
-is_equal Less e = cc
-is_equal Equal e = refl
-is_equal Greater e = cc
 
 then_equal : (o : Ordering) → is_eq (ordering_then o Equal) ≡ is_eq o
 then_equal Less = refl

@@ -2,6 +2,7 @@
 use Rattle.std.proofs.Common.{◌≡◌, ℕ, ◌≤◌, List, [], ◌∷◌, Bool, true, false, refl, sym, ap, subst, ◌∙◌, Option, Some, None, Result, Ok, Err, length, rules}
 use Rattle.std.specs.Prelude.{IsTrue, ◌||◌, ◌+◌, is_some, if◌then◌else◌, slice_set, get_or, codes}
 use Rattle.std.proofs.lemmas.List.{length-map}
+use Rattle.std.proofs.lemmas.Bool.{or_left, or_right}
 use Rattle.ident_rules.specs.declared.key.Key.{Key}
 use Rattle.resource_schema.specs.declared.schema.Schema.{Schema}
 use Rattle.resource_schema.specs.declared.kinds.Relationship.{Relationship}
@@ -25,9 +26,9 @@ use Rattle.store_model.specs.Change.{Lids, Changed, first_of, refused, done, out
 use Rattle.store_model.specs.Run.{refusal_under}
 use Rattle.store_model.specs.Reach.{is_row_in, linked_keys, reach_operation}
 use Rattle.view_reads.specs.Recording.{Recording}
-use Rattle.row_change.specs.declared.stops.Stop.{Stop}
-use Rattle.row_change.specs.declared.stops.Stop.TheVariants.{Refused, NoMemory}
-use Rattle.row_change.specs.declared.stops.There.TheVariants as there
+use Rattle.ident_rules.specs.declared.stops.Stop.{Stop}
+use Rattle.ident_rules.specs.declared.stops.Stop.TheVariants.{Because, NoMemory}
+use Rattle.row_change.specs.declared.places.There.TheVariants as there
 use Rattle.row_change.specs.Trial.{StandsBehind, IsOutcome, StaysInReach, read_of}
 use Rattle.row_change.specs.Steps.{LooksAt, Sees, Judges, LeadsOn, is_there}
 use Rattle.row_change.specs.Creating.{refuse_id, is_looked_for, next_after, with_counter}
@@ -48,10 +49,10 @@ told_refusal schema at operation lids new w now after e r is said =
     subst (λ (o : Option Refusal). IsOutcome schema at (outcome o (done schema now lids operation)) (read.Refused r) new w after) (sym is) said
 
 -- a step without a value, whose refusal is that of the operation
-pub told_stop : {V T : Type 0} (schema : Schema) (at : List ℕ) (operation : Operation) (lids new : Lids) (w now : World) (after : Recording V) (mine : Option Refusal) (P : T → Type 0) (stop : Stop)
+pub told_stop : {V T : Type 0} (schema : Schema) (at : List ℕ) (operation : Operation) (lids new : Lids) (w now : World) (after : Recording V) (mine : Option Refusal) (P : T → Type 0) (stop : Stop Refusal)
     → ((e : Refusal) → mine ≡ Some e → refused schema now lids operation ≡ Some e) → Judges at mine P (Err stop)
     → IsOutcome schema at (apply schema now operation lids) (read_of {T = Option Key} (Err stop)) new w after
-told_stop schema at operation lids new w now after mine P (Refused r) so told = told_refusal schema at operation lids new w now after told.0 r (so told.0 told.1) told.2
+told_stop schema at operation lids new w now after mine P (Because r) so told = told_refusal schema at operation lids new w now after told.0 r (so told.0 told.1) told.2
 told_stop schema at operation lids new w now after mine P NoMemory so told = no_memory schema at (apply schema now operation lids) new w after
 
 -- nothing new was read
@@ -147,14 +148,6 @@ module _ {V : Type 0} (schema : Schema) (at : List ℕ) (lids : Lids) (kind : �
       (ap (λ z. Some (record { kind = kind; id = z })) x_is, same_lids, led_on)
 
 -- ---- a create: its reach
-
-or_left : (a b : Bool) → a ≡ true → (a || b) ≡ true
-or_left true b e = refl
-or_left false b e = cc e
-
-or_right : (a b : Bool) → b ≡ true → (a || b) ≡ true
-or_right true b e = refl
-or_right false b e = e
 
 module _ (lids : Lids) (kind : ℕ) (id lid : Option (List ℕ)) (values : List AttrValue) (links : List (ℕ × List Member)) where
   id_in_reach : (now : World) (k : CellKey) → IsTrue (is_looked_for kind id k) → IsTrue (reach_operation now lids (Create kind id lid values links) k)

@@ -8,6 +8,7 @@ use Rattle.std.proofs.lemmas.Bool.{le-ltb}
 use Rattle.std.proofs.lemmas.Bool.Decides.{nat_tests}
 use Rattle.std.specs.FinMap.{nat_cmp-IsAntisymmetric}
 use Rattle.ident_rules.specs.declared.key.Key.{Key}
+use Rattle.ident_rules.specs.IdOrder.{is_equal}
 use Rattle.ident_rules.specs.Key.{key_cmp, same_key}
 use Rattle.resource_schema.specs.declared.schema.Schema.{Schema}
 use Rattle.resource_schema.specs.Kinds.{target_of}
@@ -18,7 +19,7 @@ use Rattle.world_cells.specs.declared.cells.Cell.{Cell}
 use Rattle.world_cells.specs.declared.sets.Written.{Written}
 use Rattle.world_cells.specs.Reads.{overlay}
 use Rattle.row_change.specs.WritesBacks.{is_back_of, turned, TurnsBacks, ids_at, leads_to, rewritten, RewritesLinks}
-use Rattle.row_change.proofs.Backs.{is_equal, same_then}
+use Rattle.row_change.proofs.Backs.{same_then}
 
 -- ---- whether a cell key is a way back
 

@@ -14,13 +14,14 @@ use Rattle.task_forms.specs.declared.operations.Member.{Member}
 use Rattle.task_forms.specs.declared.operations.Who.{Who}
 use Rattle.store_model.specs.Valid.{same_id}
 use Rattle.store_model.specs.Change.{Lids, named_row, named_ids, refuse_member, refuse_linkage, first_of, append_new, member_ids, on_link}
-use Rattle.row_change.specs.declared.stops.Stop.{Stop}
+use Rattle.error_objects.specs.declared.refusals.Refusal.{Refusal}
+use Rattle.ident_rules.specs.declared.stops.Stop.{Stop}
 use Rattle.row_change.specs.Steps.{Judges}
 use Rattle.row_change.proofs.Judging.{next_taken}
 
 -- ---- what is told, by what was passed
 
-pub judged_joined : (at : List ℕ) (lids : Lids) (there : Key → Bool) (linkage : List ℕ) (old old' : List (List ℕ)) (members members' : List Member) (result : Result (List (List ℕ)) Stop)
+pub judged_joined : (at : List ℕ) (lids : Lids) (there : Key → Bool) (linkage : List ℕ) (old old' : List (List ℕ)) (members members' : List Member) (result : Result (List (List ℕ)) (Stop Refusal))
     → old ≡ old' → members ≡ members'
     → Judges at (refuse_linkage there lids linkage old members) (λ ids. ids ≡ append_new old (member_ids lids members)) result
     → Judges at (refuse_linkage there lids linkage old' members') (λ ids. ids ≡ append_new old' (member_ids lids members')) result
@@ -28,7 +29,7 @@ judged_joined at lids there linkage old old' members members' result same_old sa
     subst (λ (ms : List Member). Judges at (refuse_linkage there lids linkage old' ms) (λ ids. ids ≡ append_new old' (member_ids lids ms)) result) same_members
     (subst (λ (o : List (List ℕ)). Judges at (refuse_linkage there lids linkage o members) (λ ids. ids ≡ append_new o (member_ids lids members)) result) same_old told)
 
-pub judged_members : (at : List ℕ) (lids : Lids) (there : Key → Bool) (linkage : List ℕ) (members members' : List Member) (result : Result (List (List ℕ)) Stop)
+pub judged_members : (at : List ℕ) (lids : Lids) (there : Key → Bool) (linkage : List ℕ) (members members' : List Member) (result : Result (List (List ℕ)) (Stop Refusal))
     → members ≡ members'
     → Judges at (first_of (map (refuse_member there lids linkage) members)) (λ ids. ids ≡ member_ids lids members) result
     → Judges at (first_of (map (refuse_member there lids linkage) members')) (λ ids. ids ≡ member_ids lids members') result

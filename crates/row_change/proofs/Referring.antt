@@ -10,9 +10,11 @@ use Rattle.std.specs.Ordering.{is_eq, is_lt, ordering_then, ordering_reverse, na
 use Rattle.std.specs.Cmp.{tied_itself, ranked, eq_by_cmp_equiv}
 use Rattle.std.specs.FinMap.Entries.{find, is_sorted, below_all}
 use Rattle.std.proofs.lemmas.List.Folds.{list_any-append}
+use Rattle.std.proofs.lemmas.Bool.{or_left, or_right}
 use Rattle.ident_rules.specs.declared.key.Key.{Key}
 use Rattle.ident_rules.specs.declared.memory.NoMemory.{NoMemory}
-use Rattle.ident_rules.specs.Key.{key_cmp, key_cmp_total, key_cmp-IsAntisymmetric, same_key}
+use Rattle.ident_rules.specs.IdOrder.{is_equal}
+use Rattle.ident_rules.specs.Key.{key_cmp, key_cmp_total, key_cmp-IsAntisymmetric, same_key, key_is}
 use Rattle.resource_schema.specs.declared.schema.Schema.{Schema}
 use Rattle.resource_schema.specs.Kinds.{target_of}
 use Rattle.world_cells.specs.declared.rows.Link.{Link}
@@ -28,6 +30,7 @@ use Rattle.world_cells.specs.CellOrder.{cell_key_cmp, same_cell_key}
 use Rattle.world_cells.specs.Lists.{IsIn}
 use Rattle.world_cells.specs.Reads.{Cells, link_cmp, in_span, in_part, covers, IsFirstIn}
 use Rattle.world_cells.specs.World.{World, row_at, cell_at, links_to, ids_of, no_link}
+use Rattle.store_model.specs.LinkLaws.{passes, find_in, find_of_in, link_somewhere}
 use Rattle.store_model.specs.Valid.{IsValid}
 use Rattle.store_model.specs.Change.{is_referenced}
 use Rattle.store_model.specs.Reach.{is_back_to}
@@ -36,7 +39,6 @@ use Rattle.view_reads.specs.Recording.{Recording, LookedFirst, read_part}
 use Rattle.view_reads.specs.RecordingLaws.{part_still_read}
 use Rattle.row_change.specs.Steps.{LooksAt}
 use Rattle.row_change.specs.WaysBack.{link_found, FitsLink, IsFirstLink}
-use Rattle.row_change.proofs.Backs.{is_equal}
 use Rattle.row_change.proofs.StepLaws.{looks_still}
 
 -- ---- tests
@@ -52,17 +54,6 @@ and_right false b e = cc e
 and_both : (a b : Bool) → a ≡ true → b ≡ true → (a && b) ≡ true
 and_both true b e h = h
 and_both false b e h = cc e
-
-or_left : (a b : Bool) → a ≡ true → (a || b) ≡ true
-or_left true b e = refl
-or_left false b e = cc e
-
-or_right : (a b : Bool) → b ≡ true → (a || b) ≡ true
-or_right true b e = refl
-or_right false b e = e
-
-key_is : (x y : Key) → same_key x y ≡ true → x ≡ y
-key_is x y e = key_cmp-IsAntisymmetric x y (is_equal _ e)
 
 turned_key : (x y : Key) → same_key x y ≡ same_key y x
 turned_key x y = (eq_by_cmp_equiv key_cmp_total).symm x y
@@ -125,76 +116,9 @@ first_found f key after (Some (cell_key.Counter n, c)) first = absurd (false_tru
 
 -- ---- lists
 
-passes : {A : Type 0} (p : A → Bool) (xs : List A) (x : A) → IsIn xs x → p x ≡ true → list_any p xs ≡ true
-passes p [] x among e = elim among [ ]
-passes p (y ∷ xs) x (inl is) e = or_left (p y) _ (ap p is ∙ e)
-passes p (y ∷ xs) x (inr among) e = or_right (p y) _ (passes p xs x among e)
-
 none_passes : {A : Type 0} (p : A → Bool) (xs : List A) → ((x : A) → IsIn xs x → p x ≡ false) → list_any p xs ≡ false
 none_passes p [] each = refl
 none_passes p (y ∷ xs) each = ap (λ b. b || list_any p xs) (each y (inl refl)) ∙ none_passes p xs (λ x among. each x (inr among))
-
-in_range : (n a i : ℕ) → i < n → IsIn (range_with_len a n) (a + i)
-in_range zero a i h = let no : ⊥ = omega arith in absurd no
-in_range (suc n) a zero h = inl (omega arith)
-in_range (suc n) a (suc i) h =
-    let same : (a + 1) + i ≡ a + suc i = omega arith in
-    let lower : i < n = omega arith in
-    inr (subst (λ j. IsIn (range_with_len (a + 1) n) j) same (in_range n (a + 1) i lower))
-
-within : (links : List Link) (rel : ℕ) → (rel < length links) ⊎ (get_or links rel no_link ≡ no_link)
-within [] rel = inr refl
-within (l ∷ links) zero = inl (omega arith)
-within (l ∷ links) (suc rel) = up (within links rel)
-  where
-    up : (rel < length links) ⊎ (get_or links rel no_link ≡ no_link) → (suc rel < length (l ∷ links)) ⊎ (get_or links rel no_link ≡ no_link)
-    up (inl h) = inl (omega arith)
-    up (inr e) = inr e
-
--- a link stands at one of a row's relationships
-link_somewhere : (schema : Schema) (row : Row) (rel : ℕ) (to : Key) → links_to schema row rel to ≡ true → list_any (λ rel. links_to schema row rel to) (range_with_len 0 (length row.links)) ≡ true
-link_somewhere schema row rel to leads = elim (within row.links rel) [
-  | inl h ↦ passes (λ rel. links_to schema row rel to) (range_with_len 0 (length row.links)) rel (let same : 0 + rel ≡ rel = omega arith in subst (λ i. IsIn (range_with_len 0 (length row.links)) i) same (in_range (length row.links) 0 rel h)) leads
-  | inr e ↦ let none : false ≡ true = subst (λ l. list_any (same_key to) (map (λ x. record { kind = target_of schema row.key.kind rel; id = x }) (ids_of l)) ≡ true) e leads in cc
-]
-
--- ---- entries in the order of their keys
-
-find_in : (k : Key) (es : List (Key × Row)) (row : Row) → find key_cmp k es ≡ Some row → (at : Key) × IsIn es (at, row) × (k ≡ at)
-find_in k [] row e = cc
-find_in k (x ∷ es) row e =
-    elim (same_key k x.0) as (λ b. same_key k x.0 ≡ b → cond b (Some x.1) (find key_cmp k es) ≡ Some row → (at : Key) × IsIn (x ∷ es) (at, row) × (k ≡ at)) [
-      | true ↦ λ same e. (x.0, inl (λ i. (x.0, option_map_or (λ r. r) (e i) row)), key_is k x.0 same)
-      | false ↦ λ apart e. let later = find_in k es row e in (later.0, inr later.1, later.2)
-    ] refl e
-
-true_of : (b : Bool) → T b → b ≡ true
-true_of true h = refl
-true_of false h = absurd h
-
-T_and : (a b : Bool) → T (a && b) → T a × T b
-T_and true b h = (tt, h)
-T_and false b h = absurd h
-
-less_is_not_tied : (o : Ordering) → is_lt o ≡ true → is_eq (ordering_reverse o) ≡ false
-less_is_not_tied Less e = refl
-less_is_not_tied Equal e = cc
-less_is_not_tied Greater e = cc
-
-below_in : (x : Key) (es : List (Key × Row)) (e : Key × Row) → T (below_all key_cmp x es) → IsIn es e → is_lt (key_cmp x e.0) ≡ true
-below_in x [] e h among = elim among [ ]
-below_in x (d ∷ es) e h (inl is) = ap (λ (c : Key × Row). is_lt (key_cmp x c.0)) (sym is) ∙ true_of _ (T_and _ _ h).0
-below_in x (d ∷ es) e h (inr among) = below_in x es e (T_and _ _ h).1 among
-
--- what an entry in order says is what a look-up finds
-find_of_in : (es : List (Key × Row)) (e : Key × Row) → T (is_sorted key_cmp es) → IsIn es e → find key_cmp e.0 es ≡ Some e.1
-find_of_in [] e h among = elim among [ ]
-find_of_in (d ∷ es) e h (inl is) =
-    subst (λ (c : Key × Row). find key_cmp c.0 (d ∷ es) ≡ Some c.1) is (ap (λ r. cond (is_eq r) (Some d.1) (find key_cmp d.0 es)) (tied_itself key_cmp_total d.0))
-find_of_in (d ∷ es) e h (inr among) =
-    let parts = T_and _ _ h in
-    let apart : same_key e.0 d.0 ≡ false = ap is_eq (key_cmp_total.antisymm e.0 d.0) ∙ less_is_not_tied (key_cmp d.0 e.0) (below_in d.0 es e parts.0 among) in
-    ap (λ b. cond b (Some d.1) (find key_cmp e.0 es)) apart ∙ find_of_in es e parts.1 among
 
 -- ---- rows that link to the key
 
@@ -217,7 +141,7 @@ none_leads schema now key valid none =
     at e among false apart =
         ap (λ b. not b && list_any (λ rel. links_to schema e.1 rel key) (range_with_len 0 (length e.1.links))) apart
         ∙ none_passes (λ rel. links_to schema e.1 rel key) (range_with_len 0 (length e.1.links)) (λ rel _.
-        ap (λ (o : Option Row). option_map_or (λ row. links_to schema row rel key) o false) (sym (find_of_in now.rows e valid.rows_sorted among))
+        ap (λ (o : Option Row). option_map_or (λ row. links_to schema row rel key) o false) (sym (find_of_in key_cmp key_cmp_total now.rows e valid.rows_sorted among))
         ∙ back_none (option_map_or (λ row. links_to schema row rel key) (row_at now e.0) false) (none e.0 rel apart))
 
 -- one leads to another row

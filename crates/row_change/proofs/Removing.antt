@@ -2,6 +2,7 @@
 use Rattle.std.proofs.Common.{◌≡◌, ℕ, List, [], ◌∷◌, Bool, true, false, refl, sym, ap, subst, ◌∙◌, Some, None, Option, Result, Ok, Err}
 use Rattle.std.specs.Prelude.{◌||◌, IsTrue, IsErr, IsErrAnd}
 use Rattle.std.specs.Option.{option_map_or, option_and_then}
+use Rattle.std.proofs.lemmas.Bool.{or_left, or_right}
 use Rattle.ident_rules.specs.declared.key.Key.{Key}
 use Rattle.resource_schema.specs.declared.schema.Schema.{Schema}
 use Rattle.world_cells.specs.declared.rows.Row.{Row}
@@ -19,8 +20,8 @@ use Rattle.store_model.specs.Change.{Lids, Changed, key_of, first_of, when, at_t
 use Rattle.store_model.specs.Run.{refusal_under}
 use Rattle.store_model.specs.Reach.{is_row_in, is_back_to, target_keys, reach_operation}
 use Rattle.view_reads.specs.Recording.{Recording}
-use Rattle.row_change.specs.declared.stops.Stop.{Stop}
-use Rattle.row_change.specs.declared.stops.Stop.TheVariants.{Refused, NoMemory}
+use Rattle.ident_rules.specs.declared.stops.Stop.{Stop}
+use Rattle.ident_rules.specs.declared.stops.Stop.TheVariants.{Because, NoMemory}
 use Rattle.row_change.specs.Trial.{StandsBehind, IsOutcome, TellsChange, StaysInReach, read_of}
 use Rattle.row_change.specs.Steps.{LooksAt, Sees, Judges, LeavesReads, LeadsOn}
 use Rattle.row_change.proofs.StepLaws.{sees_before, sees_after}
@@ -47,9 +48,9 @@ want_told schema at (Ok changed) lids w after = tt
 want_told schema at (Err refusal) lids w after = tt
 
 -- a stop at the first check of an operation
-pub stop_told : {V T : Type 0} (schema : Schema) (at : List ℕ) (expected : Option Refusal) (P : T → Type 0) (stop : Stop) (rest : List (Option Refusal)) (changed : Changed) (lids : Lids) (w : World) (after : Recording V)
+pub stop_told : {V T : Type 0} (schema : Schema) (at : List ℕ) (expected : Option Refusal) (P : T → Type 0) (stop : Stop Refusal) (rest : List (Option Refusal)) (changed : Changed) (lids : Lids) (w : World) (after : Recording V)
     → Judges at expected P (Err stop) → IsOutcome schema at (outcome (first_of (expected ∷ rest)) changed) (read_of (Err stop)) lids w after
-stop_told schema at expected P (Refused r) rest changed lids w after judged =
+stop_told schema at expected P (Because r) rest changed lids w after judged =
     subst (λ (o : Option Refusal). IsOutcome schema at (outcome (first_of (o ∷ rest)) changed) (read.Refused r) lids w after) (sym judged.1) judged.2
 stop_told schema at expected P NoMemory rest changed lids w after judged = want_told schema at (outcome (first_of (expected ∷ rest)) changed) lids w after
 
@@ -78,25 +79,13 @@ remove_done schema at now lids who key w after there named free leads =
 
 -- ---- the steps
 
-err_passed : {U : Type 0} (r : Result U Stop) (stop : Stop) → IsErr r → IsErrAnd r (λ e. e ≡ stop) → r ≡ Err stop
-err_passed (Ok x) stop is h = cc is
-err_passed (Err e) stop is h = ap Err h
-
-or_left : (a b : Bool) → a ≡ true → (a || b) ≡ true
-or_left true b e = refl
-or_left false b e = cc e
-
-or_right : (a b : Bool) → b ≡ true → (a || b) ≡ true
-or_right true b e = refl
-or_right false b e = e
-
 module _ {V : Type 0} (schema : Schema) (cells : V → Cells) (at : List ℕ) (lids : Lids) (who : Who) where
   -- what is seen of the row that is found
-  abbrev IsTarget : Result Row Stop → World → Type 0
+  abbrev IsTarget : Result Row (Stop Refusal) → World → Type 0
   IsTarget result now = Judges at (refuse_target now lids who) (λ row. named_row now lids who ≡ Some row) result
 
   -- a stop where it is looked for
-  tells_stop : (before after : Recording V) (stop : Stop) → Sees schema cells before after (IsTarget (Err stop))
+  tells_stop : (before after : Recording V) (stop : Stop Refusal) → Sees schema cells before after (IsTarget (Err stop))
       → TellsChange schema cells at (operation.Remove who) lids lids before after (read_of {T = Option Key} (Err stop))
   tells_stop before after stop seen w now behind leads =
       stop_told schema at (refuse_target now lids who) (λ row. named_row now lids who ≡ Some row) stop
@@ -104,10 +93,10 @@ module _ {V : Type 0} (schema : Schema) (cells : V → Cells) (at : List ℕ) (l
       (done schema now lids (operation.Remove who)) lids w after (seen w now behind leads)
 
   -- and is passed on
-  pub tells_passed : (before after : Recording V) (stop : Stop) (result : Result (Option Key) Stop) → IsErr result → IsErrAnd result (λ e. e ≡ stop)
+  pub tells_passed : (before after : Recording V) (stop : Stop Refusal) (result : Result (Option Key) (Stop Refusal)) → IsErr result → IsErrAnd result (λ e. e ≡ stop)
       → Sees schema cells before after (IsTarget (Err stop)) → TellsChange schema cells at (operation.Remove who) lids lids before after (read_of result)
   tells_passed before after stop result is passed seen w now behind leads =
-      subst (λ (r : Result (Option Key) Stop). IsOutcome schema at (apply schema now (operation.Remove who) lids) (read_of r) lids w after)
+      subst (λ (r : Result (Option Key) (Stop Refusal)). IsOutcome schema at (apply schema now (operation.Remove who) lids) (read_of r) lids w after)
       (sym (err_passed result stop is passed)) (tells_stop before after stop seen w now behind leads)
 
   pub tells_refused : (before mid after : Recording V) (row : Row) (b : Bool) (r : Refusal)

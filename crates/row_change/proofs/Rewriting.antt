@@ -7,7 +7,7 @@ use Rattle.std.proofs.lemmas.Bool.{ltb-false}
 use Rattle.std.proofs.lemmas.List.{get_or_past}
 use Rattle.std.proofs.lemmas.Slice.Zip.{AllZip-long}
 use Rattle.ident_rules.specs.declared.key.Key.{Key}
-use Rattle.ident_rules.specs.Key.{same_key, key_cmp_total, key_cmp-IsAntisymmetric}
+use Rattle.ident_rules.specs.Key.{same_key, key_cmp_total, key_cmp-IsAntisymmetric, key_is}
 use Rattle.resource_schema.specs.declared.schema.Schema.{Schema}
 use Rattle.resource_schema.specs.Kinds.{relationships_of, target_of}
 use Rattle.world_cells.specs.declared.rows.Link.{Link}
@@ -26,7 +26,6 @@ use Rattle.store_model.specs.Change.{with_row, without_row}
 use Rattle.store_model.specs.CellLaws.{row-with_row, back-with_row, row-without_row, back-without_row, leads_by}
 use Rattle.view_reads.specs.Places.{Wrote}
 use Rattle.row_change.specs.WritesBacks.{turned, leads_to, rewritten, RewritesLinks, links_of}
-use Rattle.row_change.proofs.Backs.{is_equal}
 
 -- ---- the ways back to one row
 
@@ -56,9 +55,6 @@ few_links schema now key None valid at = omega arith
 few_links schema now key (Some row) valid at =
     let same = AllZip-long IsLinkOf (relationships_of schema key.kind) row.links (valid.rows key row at).links in
     omega (arith, same)
-
-key_is : (x y : Key) → same_key x y ≡ true → x ≡ y
-key_is x y e = key_cmp-IsAntisymmetric x y (is_equal _ e)
 
 -- what stands at the ways back after the links of the row that was there, if any, were changed
 back_cell : (schema : Schema) (now : World) (key : Key) (old : Option Row) (new : List Link) → IsValid schema now → row_at now key ≡ old

@@ -9,8 +9,8 @@ use Rattle.task_forms.specs.declared.operations.Member.{Member}
 use Rattle.error_objects.specs.declared.codes.Code.TheVariants as code
 use Rattle.error_objects.specs.Refusals.{at_pointer}
 use Rattle.store_model.specs.Change.{Lids, key_of, refuse_named, refuse_member, member_pointer, name_pointer, when}
-use Rattle.row_change.specs.declared.stops.There.{There}
-use Rattle.row_change.specs.declared.stops.There.TheVariants as there
+use Rattle.row_change.specs.declared.places.There.{There}
+use Rattle.row_change.specs.declared.places.There.TheVariants as there
 use Rattle.row_change.specs.Steps.{is_there}
 
 pub there_row : (t : There) (now : World) (key : Key) (result : Result Bool NoMemory) → t ≡ there.AtRow → IfOk result (λ b. b ≡ has_row now key) → IfOk result (λ b. b ≡ is_there t now key)

@@ -12,10 +12,10 @@ use Rattle.store_model.specs.Valid.{IsValid}
 use Rattle.store_model.specs.Run.{refusal_under}
 use Rattle.view_reads.specs.Recording.{Recording, Follows}
 use Rattle.row_change.specs.Trial.{StandsBehind}
-use Rattle.row_change.specs.declared.stops.Stop.{Stop}
-use Rattle.row_change.specs.declared.stops.Stop.TheVariants.{Refused, NoMemory}
-use Rattle.row_change.specs.declared.stops.There.{There}
-use Rattle.row_change.specs.declared.stops.There.TheVariants as there
+use Rattle.ident_rules.specs.declared.stops.Stop.{Stop}
+use Rattle.ident_rules.specs.declared.stops.Stop.TheVariants.{Because, NoMemory}
+use Rattle.row_change.specs.declared.places.There.{There}
+use Rattle.row_change.specs.declared.places.There.TheVariants as there
 
 -- ---- steps that read
 
@@ -31,9 +31,9 @@ Sees schema cells before after P =
     (w now : World) → StandsBehind schema (cells before.store) after.reads w now → Leads (cell_at schema w) before.writes (cell_at schema now) → P now
 
 -- The refusal that is told, seen from the request, or a value of which P holds where there is none.
-abbrev pub Judges : {T : Type 0} → List ℕ → Option Refusal → (T → Type 0) → Result T Stop → Type 0
+abbrev pub Judges : {T : Type 0} → List ℕ → Option Refusal → (T → Type 0) → Result T (Stop Refusal) → Type 0
 Judges at expected P (Ok x) = (expected ≡ None) × P x
-Judges at expected P (Err (Refused r)) = (e : Refusal) × (expected ≡ Some e) × (r ≡ refusal_under at e)
+Judges at expected P (Err (Because r)) = (e : Refusal) × (expected ≡ Some e) × (r ≡ refusal_under at e)
 Judges at expected P (Err NoMemory) = ⊤
 
 -- the keys to which a link may lead

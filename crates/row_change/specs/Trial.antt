@@ -15,8 +15,8 @@ use Rattle.store_model.specs.Change.{Lids, Changed, apply}
 use Rattle.store_model.specs.Run.{refusal_under}
 use Rattle.store_model.specs.Reach.{reach_operation}
 use Rattle.view_reads.specs.Recording.{Recording}
-use Rattle.row_change.specs.declared.stops.Stop.{Stop}
-use Rattle.row_change.specs.declared.stops.Stop.TheVariants.{Refused, NoMemory}
+use Rattle.ident_rules.specs.declared.stops.Stop.{Stop}
+use Rattle.ident_rules.specs.declared.stops.Stop.TheVariants.{Because, NoMemory}
 
 -- A world may stand behind the view: it is valid and agrees with it on the reads. Under the earlier writes it is another valid world, now.
 pub record StandsBehind (schema : Schema) (store : Cells) (reads : ReadSet) (w now : World) : Type 0 where
@@ -45,7 +45,7 @@ StaysInReach schema cells operation lids before after =
     → (k : CellKey) → IsTrue (covers after.reads k) → IsFalse (covers before.reads k) → IsTrue (reach_operation now lids operation k)
 
 -- what a step that may stop answers
-abbrev pub read_of : {T : Type 0} → Result T Stop → Read T
+abbrev pub read_of : {T : Type 0} → Result T (Stop Refusal) → Read T
 read_of (Ok x) = read.Good x
-read_of (Err (Refused refusal)) = read.Refused refusal
+read_of (Err (Because refusal)) = read.Refused refusal
 read_of (Err NoMemory) = read.NoMemory

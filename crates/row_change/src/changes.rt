@@ -5,10 +5,9 @@ ghost use Rattle.row_change.specs.Trial.{TellsChange, StaysInReach, read_of};
 use crate::creates::create;
 use crate::members::{add_members, drop_members, set_members};
 use crate::removes::remove;
-use crate::stops::Stop;
 use crate::updates::update;
-use error_objects::Read;
-use ident_rules::Key;
+use error_objects::{Read, Refusal};
+use ident_rules::{Key, Stop};
 use local_ids::LocalIds;
 use outer_ends::Work;
 use resource_schema::Schema;
@@ -17,13 +16,13 @@ use task_forms::Operation;
 use view_reads::{Recorder, View};
 
 /// What a step that may stop answers.
-fn read_of(tried: Result<Option<Key>, Stop>) -> Read<Option<Key>>
+fn read_of(tried: Result<Option<Key>, Stop<Refusal>>) -> Read<Option<Key>>
     ensures { result ≡ read_of tried }
 {
     match tried {
         Ok(key) => Read::Good(key),
         Err(stop) => match stop {
-            Stop::Refused(refusal) => Read::Refused(refusal),
+            Stop::Because(refusal) => Read::Refused(refusal),
             Stop::NoMemory => Read::NoMemory,
         },
     }
@@ -38,7 +37,7 @@ fn try_change<V: View>(
     lids: &mut LocalIds,
     recorder: &mut Recorder<V>,
     work: &mut Work,
-) -> Result<Option<Key>, Stop>
+) -> Result<Option<Key>, Stop<Refusal>>
     ensures reads { Follows recorder.old recorder.new }
     ensures outcome { TellsChange schema.now V.cells at.now operation.now lids.old lids.new recorder.old recorder.new (read_of result) }
     ensures reach { StaysInReach schema.now V.cells operation.now lids.old recorder.old recorder.new }

@@ -15,10 +15,10 @@ ghost use Rattle.row_change.specs.Creating.{refuse_id, is_looked_for, IsNewId, w
 
 use crate::finds::{has_row, next_number, under};
 use crate::linkages::read_links;
-use crate::stops::{Stop, There};
+use crate::places::There;
 use crate::writes::put_row;
 use error_objects::{Blame, Code, Refusal};
-use ident_rules::{Id, Key, List, NoMemory, Text};
+use ident_rules::{Id, Key, List, NoMemory, Stop, Text};
 use local_ids::{Bind, LocalIds};
 use outer_ends::Work;
 use resource_schema::{AttrValue, Schema, copy_values};
@@ -43,14 +43,14 @@ pub fn create<V: View>(
     lids: &mut LocalIds,
     recorder: &mut Recorder<V>,
     work: &mut Work,
-) -> Result<Option<Key>, Stop>
+) -> Result<Option<Key>, Stop<Refusal>>
     ensures reads { Follows recorder.old recorder.new }
     ensures outcome { TellsChange schema.now V.cells at.now (operation.Create kind id lid.now values.now links.now) lids.old lids.new recorder.old recorder.new (read_of result) }
     ensures reach { StaysInReach schema.now V.cells (operation.Create kind id lid.now values.now links.now) lids.old recorder.old recorder.new }
 {
     if is_bound(lids, kind, lid) {
         let refusal = refuse_create(alloc, at, Code::LidBound, "/data/lid")?;
-        return Err(Stop::Refused(refusal));
+        return Err(Stop::Because(refusal));
     }
     let (id, next) = match new_id(alloc, kind, id, at, recorder, work) {
         Ok(made) => made,
@@ -95,7 +95,7 @@ fn new_id<V: View>(
     at: &str,
     recorder: &mut Recorder<V>,
     work: &mut Work,
-) -> Result<(Id, Option<u64>), Stop>
+) -> Result<(Id, Option<u64>), Stop<Refusal>>
     ensures looks { LooksAt (is_looked_for kind id) recorder.old recorder.new }
     ensures sees { (schema : Types) → Sees schema V.cells recorder.old recorder.new (λ now. Judges at.now (refuse_id now kind id) (IsNewId now kind id) result) }
 {
@@ -113,13 +113,13 @@ fn client_id<V: View>(
     at: &str,
     recorder: &mut Recorder<V>,
     work: &mut Work,
-) -> Result<(Id, Option<u64>), Stop>
+) -> Result<(Id, Option<u64>), Stop<Refusal>>
     ensures looks { LooksAt (is_looked_for kind (Some id)) recorder.old recorder.new }
     ensures sees { (schema : Types) → Sees schema V.cells recorder.old recorder.new (λ now. Judges at.now (refuse_id now kind (Some id)) (IsNewId now kind (Some id)) result) }
 {
     if has_row(&Key { kind, id }, recorder, work)? {
         let refusal = refuse_create(alloc, at, Code::IdExists, "/data/id")?;
-        Err(Stop::Refused(refusal))
+        Err(Stop::Because(refusal))
     } else {
         Ok((id, None))
     }
@@ -133,13 +133,13 @@ fn server_id<V: View>(
     kind: u32,
     recorder: &mut Recorder<V>,
     work: &mut Work,
-) -> Result<(Id, Option<u64>), Stop>
+) -> Result<(Id, Option<u64>), Stop<Refusal>>
     ensures looks { LooksAt (is_looked_for kind None) recorder.old recorder.new }
     ensures sees { (schema : Types) (at : List ℕ) → Sees schema V.cells recorder.old recorder.new (λ now. Judges at (refuse_id now kind None) (IsNewId now kind None) result) }
 {
     let number = next_number(kind, recorder, work)?;
     if number >= LAST_NEXT {
-        Err(Stop::Refused(ids_ended()))
+        Err(Stop::Because(ids_ended()))
     } else {
         Ok((Id::of_number(number), Some(number + 1)))
     }
@@ -195,7 +195,7 @@ fn new_row<V: View>(
     lids: &LocalIds,
     recorder: &mut Recorder<V>,
     work: &mut Work,
-) -> Result<Row, Stop>
+) -> Result<Row, Stop<Refusal>>
     ensures looks { LooksAt (is_row_in (linked_keys lids.now links.now)) recorder.old recorder.new }
     ensures sees { Sees schema.now V.cells recorder.old recorder.new (λ now. Judges at.now (refuse_links (is_there (There.AtRowOr key.now) now) lids.now (relationships_of schema.now key.now.kind) links.now) (λ row. row ≡ record { key = key.now; values = values.now; links = set_links lids.now (empty_links (relationships_of schema.now key.now.kind)) links.now }) result) }
 {

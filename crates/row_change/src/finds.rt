@@ -8,9 +8,8 @@ ghost use Rattle.std.specs.Option.{option_copied};
 ghost use Rattle.row_change.specs.Found.{row_of, number_of};
 ghost use Rattle.row_change.specs.Steps.{LooksAt, Sees, Judges};
 
-use crate::stops::Stop;
 use error_objects::{Blame, Code, Refusal};
-use ident_rules::{Key, NoMemory, Text};
+use ident_rules::{Key, NoMemory, Stop, Text};
 use local_ids::LocalIds;
 use outer_ends::Work;
 use std::alloc::Global;
@@ -99,19 +98,19 @@ pub fn find_target<V: View>(
     lids: &LocalIds,
     recorder: &mut Recorder<V>,
     work: &mut Work,
-) -> Result<Row, Stop>
+) -> Result<Row, Stop<Refusal>>
     ensures looks { LooksAt (is_row_in (target_keys lids.now who.now)) recorder.old recorder.new }
     ensures sees { (schema : Schema) → Sees schema V.cells recorder.old recorder.new (λ now. Judges at.now (refuse_target now lids.now who.now) (λ row. named_row now lids.now who.now ≡ Some row) result) }
 {
     let Some(key) = key_of(lids, &who.named) else {
         let refusal = refuse_at(alloc, at, Code::UnknownLid, who, "/lid")?;
-        return Err(Stop::Refused(refusal));
+        return Err(Stop::Because(refusal));
     };
     match find_row(alloc, &key, recorder, work)? {
         Some(row) => Ok(row),
         None => {
             let refusal = refuse_at(alloc, at, Code::NotFound, who, "")?;
-            Err(Stop::Refused(refusal))
+            Err(Stop::Because(refusal))
         }
     }
 }

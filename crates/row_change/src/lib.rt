@@ -6,9 +6,9 @@ mod creates;
 mod finds;
 mod linkages;
 mod members;
+mod places;
 mod references;
 mod removes;
-mod stops;
 #[cfg(test)]
 mod tests;
 mod updates;

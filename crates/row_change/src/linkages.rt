@@ -11,9 +11,9 @@ ghost use Rattle.store_model.specs.Reach.{is_row_in, member_keys, linked_keys};
 ghost use Rattle.row_change.specs.Steps.{LooksAt, Sees, Judges, is_there};
 
 use crate::finds::{has_row, key_of, under};
-use crate::stops::{Stop, There};
+use crate::places::There;
 use error_objects::{Blame, Code, Refusal};
-use ident_rules::{Id, Key, List, NoMemory, Text};
+use ident_rules::{Id, Key, List, NoMemory, Stop, Text};
 use local_ids::LocalIds;
 use outer_ends::Work;
 use resource_schema::{Relationship, Schema};
@@ -34,7 +34,7 @@ pub fn read_members<V: View>(
     members: &[Member],
     recorder: &mut Recorder<V>,
     work: &mut Work,
-) -> Result<List<Id>, Stop>
+) -> Result<List<Id>, Stop<Refusal>>
     ensures looks { LooksAt (is_row_in (member_keys lids.now members.now)) recorder.old recorder.new }
     ensures sees { (schema : Types) → Sees schema V.cells recorder.old recorder.new (λ now. Judges at.now (first_of (map (refuse_member (is_there there now) lids.now linkage.now) members.now)) (λ ids. ids ≡ member_ids lids.now members.now) result) }
 {
@@ -51,7 +51,7 @@ fn each_member<V: View>(
     members: &[Member],
     recorder: &mut Recorder<V>,
     work: &mut Work,
-) -> Result<List<Id>, Stop>
+) -> Result<List<Id>, Stop<Refusal>>
     ensures looks { LooksAt (is_row_in (member_keys lids.now members.now)) recorder.old recorder.new }
     ensures ids { IfOk result (λ ids. ids ≡ member_ids lids.now members.now) }
     ensures sees { (schema : Types) → Sees schema V.cells recorder.old recorder.new (λ now. Judges at.now (first_of (map (refuse_member (is_there there.now now) lids.now linkage.now) members.now)) (λ ids. ids ≡ member_ids lids.now members.now) result) }
@@ -82,20 +82,20 @@ fn read_member<V: View>(
     member: &Member,
     recorder: &mut Recorder<V>,
     work: &mut Work,
-) -> Result<Id, Stop>
+) -> Result<Id, Stop<Refusal>>
     ensures looks { LooksAt (is_row_in (member_keys lids.now (member.now ∷ []))) recorder.old recorder.new }
     ensures id { IfOk result (λ id. member_ids lids.now (member.now ∷ []) ≡ id ∷ []) }
     ensures sees { (schema : Types) → Sees schema V.cells recorder.old recorder.new (λ now. Judges at.now (refuse_member (is_there there.now now) lids.now linkage.now member.now) (λ id. ⊤) result) }
 {
     let Some(key) = key_of(lids, &member.named) else {
         let refusal = member_refusal(alloc, at, Code::UnknownLid, linkage, member)?;
-        return Err(Stop::Refused(refusal));
+        return Err(Stop::Because(refusal));
     };
     if is_there(there, &key, recorder, work)? {
         Ok(key.id)
     } else {
         let refusal = member_refusal(alloc, at, Code::RelatedNotFound, linkage, member)?;
-        Err(Stop::Refused(refusal))
+        Err(Stop::Because(refusal))
     }
 }
 
@@ -174,7 +174,7 @@ pub fn join_members<V: View>(
     members: &[Member],
     recorder: &mut Recorder<V>,
     work: &mut Work,
-) -> Result<List<Id>, Stop>
+) -> Result<List<Id>, Stop<Refusal>>
     ensures looks { LooksAt (is_row_in (member_keys lids.now members.now)) recorder.old recorder.new }
     ensures sees { (schema : Types) → Sees schema V.cells recorder.old recorder.new (λ now. Judges at.now (refuse_linkage (is_there there now) lids.now linkage.now old.now members.now) (λ ids. ids ≡ append_new old.now (member_ids lids.now members.now)) result) }
 {
@@ -194,7 +194,7 @@ fn joined_members<V: View>(
     members: &[Member],
     recorder: &mut Recorder<V>,
     work: &mut Work,
-) -> Result<List<Id>, Stop>
+) -> Result<List<Id>, Stop<Refusal>>
     ensures looks { LooksAt (is_row_in (member_keys lids.now members.now)) recorder.old recorder.new }
     ensures ids { IfOk result (λ ids. ids ≡ append_new old.now (member_ids lids.now members.now)) }
     ensures sees { (schema : Types) → Sees schema V.cells recorder.old recorder.new (λ now. Judges at.now (refuse_linkage (is_there there.now now) lids.now linkage.now old.now members.now) (λ ids. ids ≡ append_new old.now (member_ids lids.now members.now)) result) }
@@ -203,7 +203,7 @@ fn joined_members<V: View>(
     let joined = append_new(alloc, old, ids.as_slice())?;
     if joined.len() > LINK_LIMIT {
         let refusal = too_many(alloc, at, linkage)?;
-        return Err(Stop::Refused(refusal));
+        return Err(Stop::Because(refusal));
     }
     Ok(List::from_vec(joined))
 }
@@ -270,7 +270,7 @@ pub fn read_links<V: View>(
     links: &[(u32, List<Member>)],
     recorder: &mut Recorder<V>,
     work: &mut Work,
-) -> Result<List<Link>, Stop>
+) -> Result<List<Link>, Stop<Refusal>>
     ensures looks { LooksAt (is_row_in (linked_keys lids.now links.now)) recorder.old recorder.new }
     ensures sees { Sees schema.now V.cells recorder.old recorder.new (λ now. Judges at.now (refuse_links (is_there there now) lids.now (relationships_of schema.now kind) links.now) (λ new. new ≡ set_links lids.now old links.now) result) }
 {

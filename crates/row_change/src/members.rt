@@ -13,10 +13,11 @@ ghost use Rattle.row_change.specs.Rewrites.{IsRewrite};
 
 use crate::finds::find_target;
 use crate::linkages::{join_members, read_members, set_link};
-use crate::stops::{Stop, There};
+use crate::places::There;
 use crate::updates::Rewrite;
 use crate::writes::put_row;
-use ident_rules::{Id, Key, List, NoMemory};
+use error_objects::Refusal;
+use ident_rules::{Id, Key, List, NoMemory, Stop};
 use local_ids::LocalIds;
 use outer_ends::Work;
 use resource_schema::Schema;
@@ -37,7 +38,7 @@ pub fn set_members<V: View>(
     lids: &LocalIds,
     recorder: &mut Recorder<V>,
     work: &mut Work,
-) -> Result<Option<Key>, Stop>
+) -> Result<Option<Key>, Stop<Refusal>>
     ensures reads { Follows recorder.old recorder.new }
     ensures outcome { TellsChange schema.now V.cells at.now (operation.SetLinks who.now rel members.now) lids.now lids.now recorder.old recorder.new (read_of result) }
     ensures reach { StaysInReach schema.now V.cells (operation.SetLinks who.now rel members.now) lids.now recorder.old recorder.new }
@@ -58,7 +59,7 @@ fn set_row<V: View>(
     lids: &LocalIds,
     recorder: &mut Recorder<V>,
     work: &mut Work,
-) -> Result<Rewrite, Stop>
+) -> Result<Rewrite, Stop<Refusal>>
     ensures looks { LooksAt (is_row_in (target_keys lids.now who.now ++ member_keys lids.now members.now)) recorder.old recorder.new }
     ensures sees { (schema : Types) → Sees schema V.cells recorder.old recorder.new (λ now. Judges at.now (refused schema now lids.now (operation.SetLinks who.now rel members.now)) (λ made. IsRewrite now lids.now who.now (on_link rel (λ old. append_new [] (member_ids lids.now members.now))) made.old made.new) result) }
 {
@@ -89,7 +90,7 @@ pub fn add_members<V: View>(
     lids: &LocalIds,
     recorder: &mut Recorder<V>,
     work: &mut Work,
-) -> Result<Option<Key>, Stop>
+) -> Result<Option<Key>, Stop<Refusal>>
     ensures reads { Follows recorder.old recorder.new }
     ensures outcome { TellsChange schema.now V.cells at.now (operation.AddLinks who.now rel members.now) lids.now lids.now recorder.old recorder.new (read_of result) }
     ensures reach { StaysInReach schema.now V.cells (operation.AddLinks who.now rel members.now) lids.now recorder.old recorder.new }
@@ -110,7 +111,7 @@ fn grown_row<V: View>(
     lids: &LocalIds,
     recorder: &mut Recorder<V>,
     work: &mut Work,
-) -> Result<Rewrite, Stop>
+) -> Result<Rewrite, Stop<Refusal>>
     ensures looks { LooksAt (is_row_in (target_keys lids.now who.now ++ member_keys lids.now members.now)) recorder.old recorder.new }
     ensures sees { (schema : Types) → Sees schema V.cells recorder.old recorder.new (λ now. Judges at.now (refused schema now lids.now (operation.AddLinks who.now rel members.now)) (λ made. IsRewrite now lids.now who.now (on_link rel (λ old. append_new old (member_ids lids.now members.now))) made.old made.new) result) }
 {
@@ -142,7 +143,7 @@ pub fn drop_members<V: View>(
     lids: &LocalIds,
     recorder: &mut Recorder<V>,
     work: &mut Work,
-) -> Result<Option<Key>, Stop>
+) -> Result<Option<Key>, Stop<Refusal>>
     ensures reads { Follows recorder.old recorder.new }
     ensures outcome { TellsChange schema.now V.cells at.now (operation.DropLinks who.now rel members.now) lids.now lids.now recorder.old recorder.new (read_of result) }
     ensures reach { StaysInReach schema.now V.cells (operation.DropLinks who.now rel members.now) lids.now recorder.old recorder.new }
@@ -163,7 +164,7 @@ fn thinned_row<V: View>(
     lids: &LocalIds,
     recorder: &mut Recorder<V>,
     work: &mut Work,
-) -> Result<Rewrite, Stop>
+) -> Result<Rewrite, Stop<Refusal>>
     ensures looks { LooksAt (is_row_in (target_keys lids.now who.now ++ member_keys lids.now members.now)) recorder.old recorder.new }
     ensures sees { (schema : Types) → Sees schema V.cells recorder.old recorder.new (λ now. Judges at.now (refused schema now lids.now (operation.DropLinks who.now rel members.now)) (λ made. IsRewrite now lids.now who.now (on_link rel (filter (λ x. not (list_any (same_id x) (member_ids lids.now members.now))))) made.old made.new) result) }
 {

@@ -4,10 +4,9 @@ ghost use Rattle.row_change.specs.Trial.{TellsChange, StaysInReach, read_of};
 
 use crate::finds::{find_target, refuse_at};
 use crate::references::is_referenced;
-use crate::stops::Stop;
 use crate::writes::remove_row;
-use error_objects::Code;
-use ident_rules::Key;
+use error_objects::{Code, Refusal};
+use ident_rules::{Key, Stop};
 use local_ids::LocalIds;
 use outer_ends::Work;
 use resource_schema::Schema;
@@ -24,7 +23,7 @@ pub fn remove<V: View>(
     lids: &LocalIds,
     recorder: &mut Recorder<V>,
     work: &mut Work,
-) -> Result<Option<Key>, Stop>
+) -> Result<Option<Key>, Stop<Refusal>>
     ensures reads { Follows recorder.old recorder.new }
     ensures outcome { TellsChange schema.now V.cells at.now (operation.Remove who.now) lids.now lids.now recorder.old recorder.new (read_of result) }
     ensures reach { StaysInReach schema.now V.cells (operation.Remove who.now) lids.now recorder.old recorder.new }
@@ -32,7 +31,7 @@ pub fn remove<V: View>(
     let row = find_target(alloc, at, who, lids, recorder, work)?;
     if is_referenced(&row.key, recorder, work)? {
         let refusal = refuse_at(alloc, at, Code::StillReferenced, who, "")?;
-        return Err(Stop::Refused(refusal));
+        return Err(Stop::Because(refusal));
     }
     remove_row(schema, &row, recorder)?;
     Ok(None)

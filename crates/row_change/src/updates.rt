@@ -12,14 +12,15 @@ ghost use Rattle.row_change.specs.Rewrites.{IsRewrite};
 
 use crate::finds::find_target;
 use crate::linkages::read_links;
-use crate::stops::{Stop, There};
+use crate::places::There;
 use crate::writes::put_row;
-use ident_rules::{Key, List, NoMemory};
+use error_objects::Refusal;
+use ident_rules::{Key, List, NoMemory, Stop};
 use local_ids::LocalIds;
 use outer_ends::Work;
 use resource_schema::{AttrValue, Schema, copy_values};
 use std::alloc::Global;
-use task_forms::{Member, Named, Who};
+use task_forms::{Member, Who};
 use view_reads::{Recorder, View};
 use world_cells::{Link, Row};
 
@@ -43,7 +44,7 @@ pub fn update<V: View>(
     lids: &LocalIds,
     recorder: &mut Recorder<V>,
     work: &mut Work,
-) -> Result<Option<Key>, Stop>
+) -> Result<Option<Key>, Stop<Refusal>>
     ensures reads { Follows recorder.old recorder.new }
     ensures outcome { TellsChange schema.now V.cells at.now (operation.Update who.now values.now links.now) lids.now lids.now recorder.old recorder.new (read_of result) }
     ensures reach { StaysInReach schema.now V.cells (operation.Update who.now values.now links.now) lids.now recorder.old recorder.new }
@@ -66,7 +67,7 @@ fn updated_row<V: View>(
     lids: &LocalIds,
     recorder: &mut Recorder<V>,
     work: &mut Work,
-) -> Result<Rewrite, Stop>
+) -> Result<Rewrite, Stop<Refusal>>
     ensures looks { LooksAt (is_row_in (target_keys lids.now who.now ++ linked_keys lids.now links.now)) recorder.old recorder.new }
     ensures sees { Sees schema.now V.cells recorder.old recorder.new (λ now. Judges at.now (refused schema.now now lids.now (operation.Update who.now values.now links.now)) (λ made. IsRewrite now lids.now who.now (λ row. record row { values = set_values row.values values.now; links = set_links lids.now row.links links.now }) made.old made.new) result) }
 {
@@ -87,12 +88,12 @@ fn new_links<V: View>(
     lids: &LocalIds,
     recorder: &mut Recorder<V>,
     work: &mut Work,
-) -> Result<List<Link>, Stop>
+) -> Result<List<Link>, Stop<Refusal>>
     ensures looks { LooksAt (is_row_in (linked_keys lids.now links.now)) recorder.old recorder.new }
     ensures sees { Sees schema.now V.cells recorder.old recorder.new (λ now. Judges at.now (refuse_links (has_row now) lids.now (relationships_of schema.now (kind_of who.now.named)) links.now) (λ new. new ≡ set_links lids.now old.now.links links.now) result) }
 {
     let copy = old.copy(alloc)?;
-    let kind = kind_of(&who.named);
+    let kind = who.named.kind();
     read_links(
         alloc,
         schema,
@@ -105,16 +106,6 @@ fn new_links<V: View>(
         recorder,
         work,
     )
-}
-
-/// The number of the type that a resource is named with.
-fn kind_of(named: &Named) -> u32
-    ensures { result ≡ kind_of named.now }
-{
-    match named {
-        Named::Id(key) => key.kind,
-        Named::Lid(kind, _) => *kind,
-    }
 }
 
 /// A row with new values at their attributes, and with these links. Its one error is want of memory.

@@ -2,7 +2,6 @@ ghost use Rattle.std.specs.Prelude.{◌≡◌, ◌<◌, ◌≤◌, IfSome, lengt
 ghost use Rattle.std.specs.List.{position};
 ghost use Rattle.std.specs.Str.{bytes_eq};
 ghost use Rattle.serde_json.specs.View.{view};
-ghost use Rattle.json_forms.specs.Json.{text_at};
 ghost use Rattle.resource_schema.specs.SchemaRules.{is_one_of};
 ghost use Rattle.request_model.specs.SchemaFile.{form_of, many_of, attribute_from, relationship_from};
 ghost use Rattle.schema_file.specs.Finds.{Finds};
@@ -14,7 +13,7 @@ use crate::names::field_name;
 use crate::parts::{default_in, fault_in, flag_in, object_at};
 use document_parts::member_pointer;
 use ident_rules::Text;
-use json_forms::{member, text_of};
+use json_forms::text_at;
 use resource_schema::{Attribute, Form, Relationship, Why};
 use serde_json::Value;
 use std::alloc::Global;
@@ -42,18 +41,11 @@ fn many_of(word: &str) -> Option<bool>
     }
 }
 
-/// The text that is the member of that name.
-fn text_in<'v>(value: &'v Value, name: &str) -> Option<&'v str>
-    ensures { option_map (λ t. t.now) result ≡ text_at name.now (view value.now) }
-{
-    text_of(member(value, name)?)
-}
-
 /// The form of an attribute.
 fn form_at(alloc: Global, at: &str, value: &Value) -> Result<Form, SchemaEnd>
     ensures { Finds result (form_at at.now (view value.now)) }
 {
-    match text_in(value, "type").and_then(form_of) {
+    match text_at(value, "type").and_then(form_of) {
         Some(form) => Ok(form),
         None => Err(fault_in(alloc, at, "type", Why::BadType)),
     }
@@ -63,7 +55,7 @@ fn form_at(alloc: Global, at: &str, value: &Value) -> Result<Form, SchemaEnd>
 fn many_at(alloc: Global, at: &str, value: &Value) -> Result<bool, SchemaEnd>
     ensures { Finds result (many_at at.now (view value.now)) }
 {
-    match text_in(value, "kind").and_then(many_of) {
+    match text_at(value, "kind").and_then(many_of) {
         Some(many) => Ok(many),
         None => Err(fault_in(alloc, at, "kind", Why::BadKind)),
     }
@@ -82,7 +74,7 @@ fn target_at(alloc: Global, kinds: &[Text], at: &str, value: &Value) -> Result<u
     requires few { length kinds.now ≤ 64 }
     ensures { Finds result (target_at kinds.now at.now (view value.now)) }
 {
-    if let Some(name) = text_in(value, "target") {
+    if let Some(name) = text_at(value, "target") {
         if let Some(place) = place_of(kinds, name) {
             return Ok(place as u32);
         }

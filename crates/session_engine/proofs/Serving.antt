@@ -12,6 +12,7 @@ use Rattle.http_messages.specs.declared.ends.SessionEnd.{SessionEnd}
 use Rattle.http_messages.specs.declared.ends.SessionEnd.TheVariants.{Closed, Refused, CutShort, ReadFault, WriteFault, NoMemory, Worn}
 use Rattle.http_messages.specs.ReplyText.{reply_text, unavailable_text, stop_text}
 use Rattle.http_model.specs.Framings.{closes, interim_of, is_head}
+use Rattle.http_model.specs.MessageLaws.{few_more}
 use Rattle.http_model.specs.Requests.{ReadsMessage}
 use Rattle.http_model.specs.Exchanges.{Planned, planned_task, Exchange, IsAnswer, Runs, sent_for}
 use Rattle.http_model.specs.Rests.{IsEarly}
@@ -31,7 +32,7 @@ use Rattle.session_engine.specs.States.{SessionState}
 use Rattle.session_engine.specs.Finishing.{Finishes, Stops}
 use Rattle.session_engine.specs.Seen.{Answers, RanOut, Settles, NextSees, Replies, Serves}
 use Rattle.session_engine.proofs.Ends.{answers_none, answers_one, answers_then, answers_more, settles_at, settles_last, settles_then, no_exchange, served_told}
-use Rattle.session_engine.proofs.Steps.{early_of, prefix_behind, few_more, exchange_of}
+use Rattle.session_engine.proofs.Steps.{early_of, prefix_behind, exchange_of}
 
 -- what a desk stands for after a number and a world
 abbrev pub Standing : Type 1

@@ -14,6 +14,7 @@ use Rattle.http_messages.specs.declared.ends.SessionEnd.{SessionEnd}
 use Rattle.http_messages.specs.declared.ends.SessionEnd.TheVariants.{Closed, Refused, CutShort, ReadFault, WriteFault, NoMemory, Worn}
 use Rattle.http_messages.specs.ReplyText.{reply_text, unavailable_text}
 use Rattle.http_model.specs.Framings.{closes, interim_of, is_head}
+use Rattle.http_model.specs.MessageLaws.{few_more}
 use Rattle.http_model.specs.Requests.{ReadsMessage}
 use Rattle.http_model.specs.Exchanges.{planned_reply, Planned, Exchange, IsAnswer, sent_for}
 use Rattle.http_model.specs.Rests.{IsRefused, IsEarly}
@@ -161,19 +162,6 @@ step_refused plans old now t u l m w x y why head_only ReadFault h r e = absurd 
 step_refused plans old now t u l m w x y why head_only Worn h r e = absurd r
 
 -- ---- a message that is answered
-
-or_true : (b : Bool) → (b || true) ≡ true
-or_true true = refl
-or_true false = refl
-
-below_last : (x : Bool) (n : ℕ) (b : Bool) → eqb n 1000000 ≡ b → IsFalse (x || b) → n ≤ 1000000 → n < 1000000
-below_last x n true e h le = absurd (false≢true (sym h ∙ or_true x))
-below_last x n false e h le = let other : n ≢ 1000000 = λ same. false≢true (sym e ∙ eq-eqb n 1000000 same) in omega (arith, other)
-
--- a message that does not close is not the last permitted one
-pub few_more : (m : Message) (n : ℕ) → n ≤ 1000000 → IsFalse (closes m n) → n < 1000000
-unfolding closes
-few_more m n le h = below_last _ n (eqb n 1000000) refl h le
 
 -- a message with the reply that was written for it
 abbrev pub exchange_of : ℕ → Message → Reply → List Entry → Exchange Entry

@@ -10,20 +10,14 @@ use Rattle.std.specs.FinMap.Entries.{find, is_sorted, below_all}
 use Rattle.store_model.specs.Laws.{Pairwise}
 use Rattle.std.specs.List.{AllByRecursion, AllZip, list_any, flat_map, filter}
 use Rattle.std.proofs.lemmas.List.Folds.{list_any-append}
+use Rattle.std.proofs.lemmas.Bool.{or_left, or_right}
+use Rattle.store_model.specs.LinkLaws.{T_and, below_in}
 use Rattle.ident_rules.specs.declared.key.Key.{Key}
 use Rattle.ident_rules.specs.Key.{key_cmp, same_key, key_cmp-IsAntisymmetric}
 use Rattle.world_cells.specs.declared.rows.Row.{Row}
 use Rattle.world_cells.specs.Lists.{IsIn}
 
 -- ---- tests
-
-pub or_left : (a b : Bool) → a ≡ true → (a || b) ≡ true
-or_left true b e = refl
-or_left false b e = cc
-
-pub or_right : (a b : Bool) → b ≡ true → (a || b) ≡ true
-or_right true b e = refl
-or_right false b e = e
 
 pub or_cases : (a b : Bool) → (a || b) ≡ true → (a ≡ true) ⊎ (b ≡ true)
 or_cases true b e = inl refl
@@ -60,15 +54,6 @@ pub false_or_true : (b : Bool) → (b ≡ true) ⊎ (b ≡ false)
 false_or_true true = inl refl
 false_or_true false = inr refl
 
-pub is_equal : (o : Ordering) → is_eq o ≡ true → o ≡ Equal
-is_equal Less e = cc
-is_equal Equal e = refl
-is_equal Greater e = cc
-
--- keys that tie are one
-pub key_is : (x y : Key) → same_key x y ≡ true → x ≡ y
-key_is x y e = key_cmp-IsAntisymmetric x y (is_equal _ e)
-
 -- ---- options
 
 pub same_Some : {A : Type 0} (x y : A) → Some x ≡ Some y → x ≡ y
@@ -82,11 +67,6 @@ one_passes p (x ∷ xs) e = elim (or_cases (p x) (list_any p xs) e) [
   | inl here ↦ (x, inl refl, here)
   | inr later ↦ let one = one_passes p xs later in (one.0, inr one.1, one.2)
 ]
-
-pub passes : {A : Type 0} (p : A → Bool) (xs : List A) (x : A) → IsIn xs x → p x ≡ true → list_any p xs ≡ true
-passes p [] x among e = elim among [ ]
-passes p (y ∷ xs) x (inl is) e = or_left (p y) (list_any p xs) (ap p is ∙ e)
-passes p (y ∷ xs) x (inr among) e = or_right (p y) (list_any p xs) (passes p xs x among e)
 
 pub any_flat_map : {A B : Type 0} (p : B → Bool) (f : A → List B) (xs : List A) → list_any p (flat_map f xs) ≡ list_any (λ x. list_any p (f x)) xs
 any_flat_map p f [] = refl
@@ -177,48 +157,9 @@ pub all_more : {A : Type 0} (P : A → Type 0) (xs : List A) (x : A) → AllByRe
 all_more P [] x h p = (p, tt)
 all_more P (y ∷ xs) x h p = (h.0, all_more P xs x h.1 p)
 
--- ---- entries
-
--- what a look-up finds is an entry
-pub find_in : (k : Key) (es : List (Key × Row)) (row : Row) → find key_cmp k es ≡ Some row → (at : Key) × IsIn es (at, row) × (k ≡ at)
-find_in k [] row e = cc
-find_in k (x ∷ es) row e =
-    elim (same_key k x.0) as (λ b. same_key k x.0 ≡ b → cond b (Some x.1) (find key_cmp k es) ≡ Some row → (at : Key) × IsIn (x ∷ es) (at, row) × (k ≡ at)) [
-      | true ↦ λ same e. (x.0, inl (λ i. (x.0, option_map_or (λ r. r) (e i) row)), key_is k x.0 same)
-      | false ↦ λ apart e. let later = find_in k es row e in (later.0, inr later.1, later.2)
-    ] refl e
-
 -- ---- entries in the order of their keys
 
-true_of : (b : Bool) → T b → b ≡ true
-true_of true h = refl
-true_of false h = absurd h
-
-T_and : (a b : Bool) → T (a && b) → T a × T b
-T_and true b h = (tt, h)
-T_and false b h = absurd h
-
-less_is_not_tied : (o : Ordering) → is_lt o ≡ true → is_eq (ordering_reverse o) ≡ false
-less_is_not_tied Less e = refl
-less_is_not_tied Equal e = cc
-less_is_not_tied Greater e = cc
-
 module _ {K X : Type 0} (R : K → K → Ordering) where
-  pub below_in : (x : K) (es : List (K × X)) (e : K × X) → T (below_all R x es) → IsIn es e → is_lt (R x e.0) ≡ true
-  below_in x [] e h among = elim among [ ]
-  below_in x (d ∷ es) e h (inl is) = ap (λ (c : K × X). is_lt (R x c.0)) (sym is) ∙ true_of _ (T_and _ _ h).0
-  below_in x (d ∷ es) e h (inr among) = below_in x es e (T_and _ _ h).1 among
-
-  -- what an entry in order says is what a look-up finds
-  pub find_of_in : IsTotalOrder R → (es : List (K × X)) (e : K × X) → T (is_sorted R es) → IsIn es e → find R e.0 es ≡ Some e.1
-  find_of_in o [] e h among = elim among [ ]
-  find_of_in o (d ∷ es) e h (inl is) =
-      subst (λ (c : K × X). find R c.0 (d ∷ es) ≡ Some c.1) is (ap (λ r. cond (is_eq r) (Some d.1) (find R d.0 es)) (tied_itself o d.0))
-  find_of_in o (d ∷ es) e h (inr among) =
-      let parts = T_and _ _ h in
-      let apart : eq_by_cmp R e.0 d.0 ≡ false = ap is_eq (o.antisymm e.0 d.0) ∙ less_is_not_tied (R d.0 e.0) (below_in d.0 es e parts.0 among) in
-      ap (λ b. cond b (Some d.1) (find R e.0 es)) apart ∙ find_of_in o es e parts.1 among
-
   -- values of entries in order, in a relation that follows from it
   pub pairwise_values : (P : X → X → Type 0) (es : List (K × X)) → ((d e : K × X) → IsIn es d → IsIn es e → is_lt (R d.0 e.0) ≡ true → P d.1 e.1) → T (is_sorted R es) → Pairwise P (map (λ e. e.1) es)
   pairwise_values P [] each h = tt

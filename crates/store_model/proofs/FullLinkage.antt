@@ -7,7 +7,7 @@ use Rattle.std.specs.Cmp.{tied_itself}
 use Rattle.std.specs.List.{cons_option}
 use Rattle.std.proofs.lemmas.List.{length-map}
 use Rattle.ident_rules.specs.declared.key.Key.{Key}
-use Rattle.ident_rules.specs.Key.{key_cmp, key_cmp_total, same_key}
+use Rattle.ident_rules.specs.Key.{key_cmp, key_cmp_total, same_key, key_is}
 use Rattle.resource_schema.specs.declared.schema.Schema.{Schema}
 use Rattle.resource_schema.specs.Kinds.{target_of}
 use Rattle.resource_schema.specs.declared.targets.Target.{Target}
@@ -28,7 +28,7 @@ use Rattle.serde_json.specs.Data.{Data, null}
 use Rattle.store_model.specs.Resource.{Fields, object_of, resource, collection_path, related_path}
 use Rattle.store_model.specs.Document.{resources, page_links, included_member, page_document, row_document, linked_document, related_document, relationship_name, target_document, document, linked_rows, primary_rows, included_rows}
 use Rattle.store_model.specs.Laws.{Pairwise, AreApart, IsBefore, HasOneCursor, HasLesserKey, IsChain, IsChained, IsFullyLinked, ShowsResources, ShowsRows, included_part}
-use Rattle.store_model.proofs.Basics.{false_or_true, key_is, one_passes, in_left, in_right, in_append, in_map, from_map, all_in, in_all}
+use Rattle.store_model.proofs.Basics.{false_or_true, one_passes, in_left, in_right, in_append, in_map, from_map, all_in, in_all}
 use Rattle.store_model.proofs.Paging.{page_exact}
 use Rattle.store_model.proofs.Reaching.{included_exactly, itself}
 use Rattle.store_model.proofs.WorldRows.{rows_of_exactly, rows_at_exactly, rows_of_apart, linked_apart, one_row}

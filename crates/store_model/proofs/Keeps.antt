@@ -18,7 +18,7 @@ use Rattle.task_forms.specs.declared.operations.Who.{Who}
 use Rattle.task_forms.specs.declared.operations.Member.{Member}
 use Rattle.error_objects.specs.declared.refusals.Refusal.{Refusal}
 use Rattle.task_forms.specs.declared.operations.Operation.TheVariants.{Create, Update}
-use Rattle.ident_rules.specs.Key.{key_cmp_total, same_key}
+use Rattle.ident_rules.specs.Key.{key_cmp_total, same_key, key_is}
 use Rattle.world_cells.specs.World.{World, row_at, has_row, next_id, ids_of, no_link, link_at}
 use Rattle.store_model.specs.Valid.{last_next, IsLinkOf, IsValidRow, IsValid}
 use Rattle.resource_schema.specs.Forms.{HasForm}
@@ -31,7 +31,8 @@ use Rattle.store_model.specs.CellLaws.{row-with_row}
 use Rattle.store_model.proofs.Valid.{next_in_range, valid_with_next, grows_with_row, valid_with_row, counter-with_next}
 use Rattle.store_model.proofs.Links.{AreThere, IsGood, good_empty, good_leads, good_set_links, first_none, when_none, key_kind}
 use Rattle.error_objects.specs.declared.codes.Code.TheVariants as code
-use Rattle.store_model.proofs.Basics.{or_left, or_right, key_is, all_zip_set, all_zip_weaker}
+use Rattle.store_model.proofs.Basics.{all_zip_set, all_zip_weaker}
+use Rattle.std.proofs.lemmas.Bool.{or_left, or_right}
 use Rattle.error_objects.specs.Refusals.{refusal}
 
 -- ---- the links of a valid row

@@ -19,7 +19,7 @@ use Rattle.task_forms.specs.declared.tasks.Task.TheVariants as task
 use Rattle.error_objects.specs.declared.codes.Code.TheVariants as code
 use Rattle.task_forms.specs.declared.operations.Operation.{Operation}
 use Rattle.task_forms.specs.declared.operations.Operation.TheVariants.{Create, Update, Remove, SetLinks, AddLinks, DropLinks}
-use Rattle.ident_rules.specs.Key.{key_cmp, same_key}
+use Rattle.ident_rules.specs.Key.{key_cmp, same_key, key_is}
 use Rattle.world_cells.specs.World.{World, empty_world, row_at, cell_at, no_link, links_to, ids_of}
 use Rattle.resource_schema.specs.Kinds.{target_of}
 use Rattle.store_model.specs.Valid.{IsValidRow, IsValid}
@@ -34,34 +34,11 @@ use Rattle.store_model.specs.StoreMeaning.{meaning_of}
 use Rattle.store_model.proofs.Links.{first_none, when_none}
 use Rattle.store_model.proofs.Keeps.{create_keeps, update_keeps}
 use Rattle.store_model.proofs.LinkChanges.{set_keeps, add_keeps, drop_keeps}
-use Rattle.store_model.proofs.Basics.{find_in, and_true, key_is, passes}
+use Rattle.store_model.proofs.Basics.{and_true}
+use Rattle.store_model.specs.LinkLaws.{link_somewhere, find_in, passes}
 use Rattle.store_model.specs.CellLaws.{row-without_row}
 
 -- ---- a row that is taken away
-
-in_range : (n a i : ℕ) → i < n → IsIn (range_with_len a n) (a + i)
-in_range zero a i h = let no : ⊥ = omega arith in absurd no
-in_range (suc n) a zero h = inl (omega arith)
-in_range (suc n) a (suc i) h =
-    let same : (a + 1) + i ≡ a + suc i = omega arith in
-    let lower : i < n = omega arith in
-    inr (subst (λ j. IsIn (range_with_len (a + 1) n) j) same (in_range n (a + 1) i lower))
-
-within : (links : List Link) (rel : ℕ) → (rel < length links) ⊎ (get_or links rel no_link ≡ no_link)
-within [] rel = inr refl
-within (l ∷ links) zero = inl (omega arith)
-within (l ∷ links) (suc rel) = up (within links rel)
-  where
-    up : (rel < length links) ⊎ (get_or links rel no_link ≡ no_link) → (suc rel < length (l ∷ links)) ⊎ (get_or links rel no_link ≡ no_link)
-    up (inl h) = inl (omega arith)
-    up (inr e) = inr e
-
--- a link stands at one of a row's relationships
-link_somewhere : (schema : Schema) (row : Row) (rel : ℕ) (to : Key) → links_to schema row rel to ≡ true → list_any (λ rel. links_to schema row rel to) (range_with_len 0 (length row.links)) ≡ true
-link_somewhere schema row rel to leads = elim (within row.links rel) [
-  | inl h ↦ passes (λ rel. links_to schema row rel to) (range_with_len 0 (length row.links)) rel (let same : 0 + rel ≡ rel = omega arith in subst (λ i. IsIn (range_with_len 0 (length row.links)) i) same (in_range (length row.links) 0 rel h)) leads
-  | inr e ↦ let none : false ≡ true = subst (λ l. list_any (same_key to) (map (λ x. record { kind = target_of schema row.key.kind rel; id = x }) (ids_of l)) ≡ true) e leads in cc
-]
 
 module _ (schema : Schema) (w : World) (key : Key) where
   -- a row that is left, and leads to the one that goes

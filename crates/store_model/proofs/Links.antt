@@ -20,7 +20,7 @@ use Rattle.task_forms.specs.declared.operations.Member.{Member}
 use Rattle.error_objects.specs.declared.refusals.Refusal.{Refusal}
 use Rattle.error_objects.specs.declared.codes.Code.TheVariants as code
 use Rattle.ident_rules.specs.IdOrder.{id_cmp, id_cmp_total}
-use Rattle.ident_rules.specs.Key.{same_key}
+use Rattle.ident_rules.specs.Key.{same_key, key_is}
 use Rattle.store_model.specs.Valid.{IsLinkOf}
 use Rattle.world_cells.specs.World.{ids_of, no_link, link_at, links_to}
 use Rattle.resource_schema.specs.Kinds.{relationships_of, target_of}
@@ -28,7 +28,7 @@ use Rattle.error_objects.specs.Refusals.{at_pointer}
 use Rattle.store_model.specs.Change.{Lids, lid_cmp, key_of, first_of, when, refuse_named, refuse_member, refuse_linkage, refuse_links, linkage_pointer, member_pointer, name_pointer, append_new, member_ids, link_of, set_links, empty_links}
 use Rattle.store_model.specs.Valid.{same_id}
 use Rattle.task_forms.specs.Fit.{kind_of, FitsLinkage, FitsCount}
-use Rattle.store_model.proofs.Basics.{or_cases, or_false, not_is_false, key_is, same_Some, all_zip_set, all_zip_get, all_zip_past, all_more}
+use Rattle.store_model.proofs.Basics.{or_cases, or_false, not_is_false, same_Some, all_zip_set, all_zip_get, all_zip_past, all_more}
 
 -- ---- lists
 

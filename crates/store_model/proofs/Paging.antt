@@ -16,7 +16,8 @@ use Rattle.task_forms.specs.declared.queries.Page.{Page}
 use Rattle.task_forms.specs.declared.queries.SortKey.{SortKey}
 use Rattle.store_model.specs.Pages.{values_cmp, place_cmp, place_cmp_total, place_of, by_place, last_items, first_item, last_item, behind, before, slice_between, slice_of, any_before, any_after, page_of, sorted}
 use Rattle.store_model.specs.Laws.{AreApart, IsBefore, IsBetween, HasNoRoom, HasEarlier, HasLater, HasOneCursor, IsPage, AreSorted}
-use Rattle.store_model.proofs.Basics.{same_Some, one_passes, passes, in_left, in_right, in_append, in_map, from_map, in_filter, from_filter, all_in, in_all, pairwise_values, sorted_split}
+use Rattle.store_model.proofs.Basics.{same_Some, one_passes, in_left, in_right, in_append, in_map, from_map, in_filter, from_filter, all_in, in_all, pairwise_values, sorted_split}
+use Rattle.store_model.specs.LinkLaws.{passes}
 
 -- ---- one entry more
 

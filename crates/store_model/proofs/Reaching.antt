@@ -11,13 +11,15 @@ use Rattle.ident_rules.specs.declared.key.Key.{Key}
 use Rattle.resource_schema.specs.declared.schema.Schema.{Schema}
 use Rattle.world_cells.specs.declared.rows.Row.{Row}
 use Rattle.task_forms.specs.declared.queries.Path.{Path}
-use Rattle.ident_rules.specs.Key.{key_cmp, key_cmp_total, same_key}
+use Rattle.ident_rules.specs.Key.{key_cmp, key_cmp_total, same_key, key_is}
 use Rattle.world_cells.specs.World.{World, row_at, linked, links_to}
 use Rattle.world_cells.specs.Lists.{IsIn}
 use Rattle.store_model.specs.Included.{HasLink, IsReached, IsReachedAlong, IsReachedFrom, step, along, reached_keys, has_key, included}
 use Rattle.store_model.specs.Valid.{IsValid}
 use Rattle.store_model.specs.Laws.{HasLesserKey, IsIncluded, AreIncluded}
-use Rattle.store_model.proofs.Basics.{or_left, or_right, or_cases, and_true, and_parts, not_is_true, not_true, true_is_not_false, key_is, one_passes, passes, any_flat_map, in_map, from_map, in_filter, from_filter, find_in, find_of_in, pairwise_values}
+use Rattle.store_model.proofs.Basics.{or_cases, and_true, and_parts, not_is_true, not_true, true_is_not_false, one_passes, any_flat_map, in_map, from_map, in_filter, from_filter, pairwise_values}
+use Rattle.store_model.specs.LinkLaws.{passes, find_in, find_of_in}
+use Rattle.std.proofs.lemmas.Bool.{or_left, or_right}
 
 module _ (schema : Schema) (w : World) where
   keys_of_row : (row : Option Row) (rel : ℕ) (to : Key) → list_any (same_key to) (option_map_or (λ r. linked schema r rel) row []) ≡ option_map_or (λ r. links_to schema r rel to) row false

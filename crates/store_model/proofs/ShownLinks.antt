@@ -4,7 +4,7 @@ use Rattle.std.specs.Prelude.{IsTrue, map, slice_get, get_or}
 use Rattle.std.specs.Option.{option_map_or}
 use Rattle.std.specs.List.{AllZip, list_any, zip}
 use Rattle.ident_rules.specs.declared.key.Key.{Key}
-use Rattle.ident_rules.specs.Key.{same_key}
+use Rattle.ident_rules.specs.Key.{same_key, key_is}
 use Rattle.resource_schema.specs.declared.schema.Schema.{Schema}
 use Rattle.resource_schema.specs.declared.kinds.Relationship.{Relationship}
 use Rattle.resource_schema.specs.Kinds.{relationships_of, target_of}
@@ -16,7 +16,7 @@ use Rattle.world_cells.specs.World.{World, ids_of, no_link, link_at, links_to}
 use Rattle.store_model.specs.Valid.{IsLinkOf, IsValidRow}
 use Rattle.store_model.specs.Resource.{Fields, identifier, linkage, is_shown, relationship_object}
 use Rattle.store_model.specs.Laws.{NamesResource, ShowsLink}
-use Rattle.store_model.proofs.Basics.{or_cases, same_Some, key_is, one_passes, in_map, from_map, in_filter, all_zip_past}
+use Rattle.store_model.proofs.Basics.{or_cases, same_Some, one_passes, in_map, from_map, in_filter, all_zip_past}
 
 zip_in : {A B : Type 0} (P : A → B → Type 0) (xs : List A) (ys : List B) (i : ℕ) (d : B) (x : A) → AllZip P xs ys → slice_get xs i ≡ Some x → IsIn (zip xs ys) (x, get_or ys i d)
 zip_in P [] [] i d x h e = cc

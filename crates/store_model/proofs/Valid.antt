@@ -6,14 +6,15 @@ use Rattle.std.specs.Cmp.{nat_cmp_total}
 use Rattle.std.specs.FinMap.{nat_cmp-IsAntisymmetric}
 use Rattle.std.specs.FinMap.Entries.{find, find-put, is_sorted-put}
 use Rattle.ident_rules.specs.declared.key.Key.{Key}
+use Rattle.ident_rules.specs.IdOrder.{is_equal}
 use Rattle.resource_schema.specs.declared.schema.Schema.{Schema}
 use Rattle.world_cells.specs.declared.rows.Row.{Row}
-use Rattle.ident_rules.specs.Key.{key_cmp, key_cmp_total, same_key}
+use Rattle.ident_rules.specs.Key.{key_cmp, key_cmp_total, same_key, key_is}
 use Rattle.world_cells.specs.World.{World, row_at, has_row, next_id}
 use Rattle.store_model.specs.Valid.{last_next, IsValidRow, IsValid}
 use Rattle.store_model.specs.Change.{with_row, with_next}
 use Rattle.store_model.specs.CellLaws.{row-with_row}
-use Rattle.store_model.proofs.Basics.{is_equal, key_is, same_Some}
+use Rattle.store_model.proofs.Basics.{same_Some}
 
 -- no row and no number is taken away
 pub record Grows (w v : World) : Type 0 where

@@ -8,6 +8,7 @@ use Rattle.std.specs.Ordering.{is_eq, nat_cmp, eq_by_cmp}
 use Rattle.std.specs.Cmp.{nat_cmp_total}
 use Rattle.std.specs.FinMap.Entries.{find, find-put, find_tied, find-where_key}
 use Rattle.ident_rules.specs.declared.key.Key.{Key}
+use Rattle.ident_rules.specs.IdOrder.{is_equal}
 use Rattle.ident_rules.specs.Key.{key_cmp, key_cmp_total, key_cmp-IsAntisymmetric, same_key}
 use Rattle.resource_schema.specs.declared.schema.Schema.{Schema}
 use Rattle.world_cells.specs.declared.rows.Row.{Row}
@@ -19,11 +20,6 @@ use Rattle.world_cells.specs.CellLaws.{same_row_cell, map_cond}
 use Rattle.world_cells.specs.CellOrder.{same_cell_key}
 use Rattle.world_cells.specs.World.{World, row_at, cell_at, links_to}
 use Rattle.store_model.specs.Change.{with_row, without_row, with_next}
-
-is_equal : (o : Ordering) → is_eq o ≡ true → o ≡ Equal
-is_equal Less e = cc
-is_equal Equal e = refl
-is_equal Greater e = cc
 
 -- ---- one row
 

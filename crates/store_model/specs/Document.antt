@@ -6,7 +6,6 @@ use Rattle.std.specs.Ordering.{nat_cmp, is_gt}
 use Rattle.std.specs.Str.{bytes_eq}
 use Rattle.serde_json.specs.Data.{Data, null, string, array}
 use Rattle.serde_json.specs.View.{items_of}
-use Rattle.form_urlencoded.specs.Form as form
 use Rattle.resource_schema.specs.declared.schema.Schema.{Schema}
 use Rattle.resource_schema.specs.declared.targets.Target.{Target}
 use Rattle.resource_schema.specs.declared.targets.Target.TheVariants as target
@@ -18,6 +17,7 @@ use Rattle.world_cells.specs.World.{World, row_at, linked, link_at}
 use Rattle.task_forms.specs.declared.queries.Query.{Query}
 use Rattle.task_forms.specs.declared.queries.Path.{Path}
 use Rattle.task_forms.specs.declared.tasks.Fetch.{Fetch}
+use Rattle.request_model.specs.Links.{with_query}
 use Rattle.request_model.specs.Cursors.{cursor_text}
 use Rattle.store_model.specs.Pages.{Selected, place_of, page_of, rows_of, rows_at, first_item, last_item}
 use Rattle.store_model.specs.Included.{included}
@@ -39,14 +39,9 @@ abbrev pub pairs_with : List (List ℕ × List ℕ) → List ℕ → List ℕ �
 pairs_with [] name text = (name, text) ∷ []
 pairs_with (p ∷ pairs) name text = if is_cursor p.0 then pairs_with pairs name text else insert_pair p (pairs_with pairs name text)
 
--- pairs behind a text, as form_urlencoded writes them
-abbrev pub query_text : List ℕ → List (List ℕ × List ℕ) → List ℕ
-query_text text [] = text
-query_text text (p ∷ pairs) = query_text (form.append_pair text p.0 p.1) pairs
-
 -- the path with the request's pairs, and a cursor at a row
 abbrev pub link_text : List ℕ → Query → List ℕ → Row → List ℕ
-link_text path query name row = path ++ codes "?" ++ query_text [] (pairs_with query.pairs name (cursor_text (place_of query.sort row)))
+link_text path query name row = with_query path (pairs_with query.pairs name (cursor_text (place_of query.sort row)))
 
 -- a link with the row's cursor, where a row stands beyond it
 abbrev pub page_link : List ℕ → Query → List ℕ → Option Row → Bool → Data

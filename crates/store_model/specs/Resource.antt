@@ -13,6 +13,7 @@ use Rattle.resource_schema.specs.Kinds.{attributes_of, relationships_of, kind_na
 use Rattle.world_cells.specs.declared.rows.Row.{Row}
 use Rattle.world_cells.specs.declared.rows.Link.{Link}
 use Rattle.world_cells.specs.declared.rows.Link.TheVariants.{One, Many}
+use Rattle.request_model.specs.Links.{collection_link, resource_link, related_link, relationship_link}
 use Rattle.request_model.specs.Values.{value_data}
 
 -- ---- objects
@@ -46,16 +47,16 @@ linkage schema kind (Many xs) = array (items_of (map (λ x. identifier schema (r
 -- ---- paths ("Links"; their form is of this project)
 
 abbrev pub collection_path : Schema → ℕ → List ℕ
-collection_path schema kind = codes "/" ++ kind_name schema kind
+collection_path schema kind = collection_link (kind_name schema kind)
 
 abbrev pub resource_path : Schema → Key → List ℕ
-resource_path schema key = collection_path schema key.kind ++ codes "/" ++ key.id
+resource_path schema key = resource_link (kind_name schema key.kind) key.id
 
 abbrev pub related_path : Schema → Key → List ℕ → List ℕ
-related_path schema key rel = resource_path schema key ++ codes "/" ++ rel
+related_path schema key rel = related_link (kind_name schema key.kind) key.id rel
 
 abbrev pub relationship_path : Schema → Key → List ℕ → List ℕ
-relationship_path schema key rel = resource_path schema key ++ codes "/relationships/" ++ rel
+relationship_path schema key rel = relationship_link (kind_name schema key.kind) key.id rel
 
 -- ---- fields ("Sparse Fieldsets")
 

@@ -1,3 +1,4 @@
 pub mod Desks
 pub mod Fit
 pub mod Meaning
+pub mod Queries

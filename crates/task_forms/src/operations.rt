@@ -10,6 +10,21 @@ pub enum Named {
     Lid(u32, Text),
 }
 
+impl Named {
+    ghost use Rattle.std.specs.Prelude.{◌≡◌};
+    ghost use Rattle.task_forms.specs.Fit.{kind_of};
+
+    /// The number of the type that the resource is named with.
+    pub fn kind(&self) -> u32
+        ensures { result ≡ kind_of self.now }
+    {
+        match self {
+            Named::Id(key) => key.kind,
+            Named::Lid(kind, _) => *kind,
+        }
+    }
+}
+
 /// Where in the request the resource stands that an operation changes; a refusal of it is blamed there.
 #[derive(Clone, Copy, Debug, PartialEq, Eq)]
 pub enum Where {

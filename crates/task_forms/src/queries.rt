@@ -1,5 +1,6 @@
 use ident_rules::{List, Name, Text};
 use resource_schema::Place;
+use std::alloc::Global;
 
 /// A path of relationships from the primary resources on (JSON:API 1.1, "Inclusion of Related Resources").
 #[derive(Debug, Drop)]
@@ -41,4 +42,27 @@ pub struct Query {
     pub sort: List<SortKey>,
     /// The part of the order.
     pub page: Page,
+}
+
+impl Query {
+    ghost use Rattle.std.specs.Prelude.{◌≡◌};
+    ghost use Rattle.task_forms.specs.Queries.{no_query};
+
+    /// The query that asks for nothing: a page of 50 resources from the first on, in the order of their ids, each with all
+    /// its fields. Takes no memory.
+    pub fn none(alloc: Global) -> Query
+        ensures { result ≡ no_query }
+    {
+        Query {
+            pairs: List::from_vec(Vec::new(alloc)),
+            include: None,
+            fields: List::from_vec(Vec::new(alloc)),
+            sort: List::from_vec(Vec::new(alloc)),
+            page: Page {
+                size: 50,
+                after: None,
+                before: None,
+            },
+        }
+    }
 }

@@ -1,5 +1,5 @@
 ghost use Rattle.std.specs.Prelude.{◌≡◌, IfOk};
-ghost use Rattle.uri_texts.specs.Links.{resource_link, related_link, relationship_link, with_query};
+ghost use Rattle.request_model.specs.Links.{resource_link, related_link, relationship_link, with_query};
 
 use form_urlencoded::Serializer;
 use ident_rules::{Id, Name, NoMemory, Text};

@@ -8,7 +8,7 @@ use Rattle.world_cells.specs.World.{cell_at}
 use Rattle.task_forms.specs.declared.operations.Operation.TheVariants as operation
 use Rattle.store_model.specs.Change.{is_bound, refuse_links, set_links, empty_links}
 use Rattle.store_model.specs.Reach.{is_row_in, linked_keys}
-use Rattle.row_change.specs.declared.stops.There.TheVariants as there
+use Rattle.row_change.specs.declared.places.There.TheVariants as there
 use Rattle.row_change.specs.Trial.{StandsBehind}
 use Rattle.row_change.specs.Steps.{Judges, is_there}
 use Rattle.row_change.specs.Creating.{refuse_id, is_looked_for, IsNewId}

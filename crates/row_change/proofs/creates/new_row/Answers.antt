@@ -3,7 +3,7 @@ use Rattle.resource_schema.specs.Kinds.{relationships_of}
 use Rattle.store_model.specs.Change.{refuse_links, set_links, empty_links}
 use Rattle.world_cells.specs.declared.rows.Link.{Link}
 use Rattle.world_cells.specs.declared.rows.Row.{Row}
-use Rattle.row_change.specs.declared.stops.There.TheVariants as there
+use Rattle.row_change.specs.declared.places.There.TheVariants as there
 use Rattle.row_change.specs.Steps.{is_there}
 use Rattle.row_change.proofs.Judging.{judges_stop}
 use Rattle.row_change.proofs.creates.new_row.Goals as goal

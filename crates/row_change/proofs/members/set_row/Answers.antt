@@ -6,7 +6,7 @@ use Rattle.task_forms.specs.declared.operations.Operation.TheVariants as operati
 use Rattle.error_objects.specs.declared.refusals.Refusal.{Refusal}
 use Rattle.store_model.specs.Change.{refused, refuse_target, refuse_linkage, named_row, append_new, member_ids, on_link}
 use Rattle.store_model.specs.Reach.{is_row_in, target_keys, member_keys}
-use Rattle.row_change.specs.declared.stops.There.TheVariants as there
+use Rattle.row_change.specs.declared.places.There.TheVariants as there
 use Rattle.row_change.specs.declared.updates.Rewrite.{Rewrite}
 use Rattle.row_change.specs.Steps.{Judges, is_there}
 use Rattle.row_change.specs.Rewrites.{IsRewrite}

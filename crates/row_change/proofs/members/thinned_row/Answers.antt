@@ -7,7 +7,7 @@ use Rattle.error_objects.specs.declared.refusals.Refusal.{Refusal}
 use Rattle.store_model.specs.Valid.{same_id}
 use Rattle.store_model.specs.Change.{first_of, refused, refuse_target, refuse_member, named_row, member_ids, on_link}
 use Rattle.store_model.specs.Reach.{is_row_in, target_keys, member_keys}
-use Rattle.row_change.specs.declared.stops.There.TheVariants as there
+use Rattle.row_change.specs.declared.places.There.TheVariants as there
 use Rattle.row_change.specs.declared.updates.Rewrite.{Rewrite}
 use Rattle.row_change.specs.Steps.{Judges, is_there}
 use Rattle.row_change.specs.Rewrites.{IsRewrite}

@@ -1,7 +1,7 @@
--- What a planner's parts answer, against definitions that know no want of memory.
+-- What a step answers that may stop, against a definition that knows no want of memory.
 use Rattle.std.specs.Prelude.{◌≡◌, ⊤, Result, Ok, Err}
-use Rattle.request_tasks.specs.declared.stops.Stop.{Stop}
-use Rattle.request_tasks.specs.declared.stops.Stop.TheVariants.{Because, NoMemory}
+use Rattle.ident_rules.specs.declared.stops.Stop.{Stop}
+use Rattle.ident_rules.specs.declared.stops.Stop.TheVariants.{Because, NoMemory}
 
 -- a stop for this reason
 abbrev pub IsStop : {R : Type 0} → Stop R → R → Type 0

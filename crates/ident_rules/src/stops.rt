@@ -1,10 +1,10 @@
-use ident_rules::NoMemory;
+use crate::NoMemory;
 use std::alloc::AllocFailed;
 
-/// Why there is no task.
+/// Why a step gave no value: one that `?` passes on.
 #[derive(Debug, Drop)]
 pub enum Stop<R> {
-    /// For this reason: a refusal, or the reply that is fixed.
+    /// For this reason: the first refusal, or a reply that is fixed.
     Because(R),
     /// Want of memory.
     NoMemory,
@@ -12,7 +12,7 @@ pub enum Stop<R> {
 
 impl<R> From<NoMemory> for Stop<R> {
     ghost use Rattle.std.specs.Prelude.{◌≡◌};
-    ghost use Rattle.request_tasks.specs.declared.stops.Stop.TheVariants as stop;
+    ghost use Rattle.ident_rules.specs.declared.stops.Stop.TheVariants as stop;
 
     ghost from_gives = { λ _ e. e ≡ stop.NoMemory };
 
@@ -23,7 +23,7 @@ impl<R> From<NoMemory> for Stop<R> {
 
 impl<R, T: Drop> From<AllocFailed<T>> for Stop<R> {
     ghost use Rattle.std.specs.Prelude.{◌≡◌};
-    ghost use Rattle.request_tasks.specs.declared.stops.Stop.TheVariants as stop;
+    ghost use Rattle.ident_rules.specs.declared.stops.Stop.TheVariants as stop;
 
     ghost from_gives = { λ _ e. e ≡ stop.NoMemory };
 
