@@ -3,11 +3,11 @@ ghost use Rattle.serde_json.specs.View.{view};
 ghost use Rattle.request_model.specs.Documents as documents;
 ghost use Rattle.resource_reader.specs.Reads.{IsReadVec};
 
-use ident_rules::Stop;
 use crate::creates::create_of;
 use crate::linkages::read_linkage;
 use crate::updates::update_of;
 use error_objects::Read;
+use ident_rules::Stop;
 use resource_schema::Schema;
 use serde_json::Value;
 use std::alloc::Global;

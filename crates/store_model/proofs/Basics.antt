@@ -167,7 +167,7 @@ module _ {K X : Type 0} (R : K → K → Ordering) where
       let parts = T_and _ _ h in (
         all_in (P d.1) (map (λ e. e.1) es) (λ x among.
             let one = from_map (λ (e : K × X). e.1) es x among in
-            subst (P d.1) one.2 (each d one.0 (inl refl) (inr one.1) (below_in d.0 es one.0 parts.0 one.1))),
+            subst (P d.1) one.2 (each d one.0 (inl refl) (inr one.1) (below_in R d.0 es one.0 parts.0 one.1))),
         pairwise_values P es (λ a b p q. each a b (inr p) (inr q)) parts.1,
       )
 
@@ -188,5 +188,5 @@ module _ {K X : Type 0} (R : K → K → Ordering) where
       below_first k (x ∷ xs) ys h = both_T _ _ (T_and _ _ h).0 (below_first k xs ys (T_and _ _ h).1)
 
       by : (x : K × X) (xs : List (K × X)) → T (below_all R x.0 (xs ++ ys)) → ((d e : K × X) → IsIn xs d → IsIn ys e → is_lt (R d.0 e.0) ≡ true) → (d e : K × X) → IsIn (x ∷ xs) d → IsIn ys e → is_lt (R d.0 e.0) ≡ true
-      by x xs h rest d e (inl is) q = ap (λ (c : K × X). is_lt (R c.0 e.0)) (sym is) ∙ below_in x.0 (xs ++ ys) e h (in_right xs ys e q)
+      by x xs h rest d e (inl is) q = ap (λ (c : K × X). is_lt (R c.0 e.0)) (sym is) ∙ below_in R x.0 (xs ++ ys) e h (in_right xs ys e q)
       by x xs h rest d e (inr p) q = rest d e p q

@@ -7,6 +7,7 @@ use Rattle.std.specs.Ordering.{is_lt, is_gt, ordering_then, nat_cmp, ordering_re
 use Rattle.std.specs.Cmp.{IsTotalOrder, nat_cmp_total, then_total, on_total, tied_itself}
 use Rattle.ident_rules.specs.declared.key.Key.{Key}
 use Rattle.ident_rules.specs.IdOrder.{id_cmp, id_cmp_total}
+use Rattle.ident_rules.specs.IdOrder.{is_equal}
 use Rattle.ident_rules.specs.Key.{key_cmp, key_cmp_total, key_cmp-IsAntisymmetric, same_key}
 use Rattle.world_cells.specs.declared.keys.CellKey.{CellKey}
 use Rattle.world_cells.specs.declared.keys.CellKey.TheVariants as cell_key
@@ -18,7 +19,7 @@ use Rattle.world_cells.specs.CellOrder.{cell_key_cmp}
 use Rattle.world_cells.specs.Reads.{is_above, is_below, link_cmp, in_span}
 use Rattle.std.proofs.lemmas.Bool.Decides.{eqb_tells}
 use Rattle.view_reads.specs.Narrowing.{is_behind, is_met, narrowed, CanNarrow}
-use Rattle.view_reads.proofs.Sorted.{is_less, is_equal}
+use Rattle.view_reads.proofs.Sorted.{is_less}
 
 pub and_true : (a b : Bool) → (a && b) ≡ true → (a ≡ true) × (b ≡ true)
 and_true true b h = (refl, h)

@@ -8,6 +8,7 @@ use Rattle.std.specs.Cmp.{tied_itself}
 use Rattle.std.specs.FinMap.Entries.{find, below_all, find-append}
 use Rattle.std.proofs.lemmas.List.{drop_more, take_more, map_push, take-append-drop}
 use Rattle.std.proofs.Math.Seq.{drop-length}
+use Rattle.ident_rules.specs.IdOrder.{is_equal}
 use Rattle.world_cells.specs.declared.keys.CellKey.{CellKey}
 use Rattle.world_cells.specs.declared.cells.Cell.{Cell}
 use Rattle.world_cells.specs.declared.spans.Span.{Span}
@@ -17,7 +18,7 @@ use Rattle.world_cells.specs.Reads.{Cells, entries_of, overlay, in_span}
 use Rattle.view_reads.specs.Narrowing.{IsMet}
 use Rattle.view_reads.specs.Merging.{nothing, put_in}
 use Rattle.view_reads.specs.Places.{AreSorted}
-use Rattle.view_reads.proofs.Sorted.{both_T, true_T, is_less, is_equal}
+use Rattle.view_reads.proofs.Sorted.{both_T, true_T, is_less}
 
 -- ---- keys
 
