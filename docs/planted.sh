@@ -12,7 +12,8 @@ try_crate() {
     tried=$1
     kept=$(mktemp -d)
     mv "crates/$tried/must-fail" "$kept/edits"
-    trap 'rm -rf "crates/$tried/must-fail"; mv "$kept/edits" "crates/$tried/must-fail"; rmdir "$kept"' EXIT INT TERM
+    trap 'rm -rf "crates/$tried/must-fail"; mv "$kept/edits" "crates/$tried/must-fail"; rmdir "$kept"' EXIT
+    trap 'exit 1' INT TERM
     mkdir "crates/$tried/must-fail"
     cp docs/planted/"$tried"/*.edit "crates/$tried/must-fail/"
     rt must-fail "$tried"
