@@ -9,14 +9,15 @@ cd "$(dirname "$0")/.." || exit 1
 
 # Tries the bugs of a crate in the place of its must-fail edits, which it puts back at the end.
 try_crate() {
+    tried=$1
     kept=$(mktemp -d)
-    crate=$1
-    mkdir -p "crates/$1/must-fail"
-    mv "crates/$1/must-fail" "$kept/edits"
-    trap 'rm -rf "crates/$crate/must-fail"; mv "$kept/edits" "crates/$crate/must-fail"; rmdir "$kept"' EXIT INT TERM
-    mkdir "crates/$1/must-fail"
-    cp docs/planted/"$1"/*.edit "crates/$1/must-fail/"
-    rt must-fail "$1"
+    mkdir -p "crates/$tried/must-fail"
+    mv "crates/$tried/must-fail" "$kept/edits"
+    trap 'rm -rf "crates/$tried/must-fail"; mv "$kept/edits" "crates/$tried/must-fail"; rmdir "$kept"' EXIT
+    trap 'exit 1' INT TERM
+    mkdir "crates/$tried/must-fail"
+    cp docs/planted/"$tried"/*.edit "crates/$tried/must-fail/"
+    rt must-fail "$tried"
 }
 
 if [ "${1:-}" = --try ]; then
