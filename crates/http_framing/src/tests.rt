@@ -52,6 +52,12 @@ fn tells_heads(rt: HostRuntime) {
         }
     }
     assert_eq!(rt; name_of(&take(rt.alloc(), b"GET /art", 3, 2)), "fault");
+    // what one read brings is enough, though the second would fail
+    assert_eq!(rt;
+        name_of(&take(rt.alloc(), b"GET / HTTP/1.0\n\n", 40, 2)),
+        "head"
+    );
+    assert_eq!(rt; name_of(&take(rt.alloc(), b"", 40, 2)), "end");
 }
 
 fn judged_of(end: &Result<HeadEnd, NoMemory>) -> &'static str {

@@ -1,4 +1,4 @@
-ghost use Rattle.std.specs.Prelude.{◌≡◌, IfOk, codes};
+ghost use Rattle.std.specs.Prelude.{◌≡◌, IfOk, IsOk, codes, length};
 ghost use Rattle.std.specs.List.{list_all};
 ghost use Rattle.request_model.specs.MediaTypes.{media_of};
 ghost use Rattle.request_model.specs.Negotiation.{content, is_identity, needs_atomic, needs_body, serve, serves, values_of};
@@ -52,7 +52,8 @@ fn serves(alloc: Global, need: Need, value: &[u8]) -> Result<bool, NoMemory>
 
 // At most one field Content-Type, whose type serves.
 fn serve(alloc: Global, need: Need, fields: &[Field]) -> Result<bool, NoMemory>
-    ensures { IfOk result (λ b. b ≡ serve need (values_of (codes "content-type") fields.now)) }
+    ensures serves { IfOk result (λ b. b ≡ serve need (values_of (codes "content-type") fields.now)) }
+    ensures plain { (length (values_of (codes "content-type") fields.now) ≡ 1 → ⊥) → IsOk result }
 {
     let mut values = Values::new(b"content-type", fields);
     let Some(value) = values.next() else {
@@ -84,9 +85,11 @@ fn is_uncoded(fields: &[Field]) -> bool
 }
 
 /// How the fields that describe the content are judged: the type before the coding (JSON:API 1.1, "Server
-/// Responsibilities"; RFC 9110, sections 8.3, 8.4 and 15.5.16). Its one error is want of memory.
+/// Responsibilities"; RFC 9110, sections 8.3, 8.4 and 15.5.16). Its one error is want of memory; without a field
+/// Content-Type, and with two of them, it takes none.
 pub fn content_ok(alloc: Global, fields: &[Field], need: Need) -> Result<Judged, NoMemory>
-    ensures { IfOk result (λ j. j ≡ content fields.now need) }
+    ensures judged { IfOk result (λ j. j ≡ content fields.now need) }
+    ensures plain { (length (values_of (codes "content-type") fields.now) ≡ 1 → ⊥) → IsOk result }
 {
     if !serve(alloc, need, fields)? {
         return Ok(Judged::BadType);

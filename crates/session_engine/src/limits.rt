@@ -19,7 +19,12 @@ pub struct Limits {
 
 impl Limits {
     /// The one value.
-    pub fn standard() -> Limits {
+    pub fn standard() -> Limits
+        ensures requests { result.requests_per_connection ≡ 1000000 }
+        ensures head { result.head ≡ 16384 }
+        ensures fields { result.fields ≡ 64 }
+        ensures body { result.body ≡ 1048576 }
+    {
         Limits {
             requests_per_connection: 1_000_000,
             head: 16_384,
