@@ -9,10 +9,11 @@ cd "$(dirname "$0")/.." || exit 1
 
 # Tries the bugs of a crate in the place of its must-fail edits, which it puts back at the end.
 try_crate() {
+    edits=crates/$1/must-fail
     kept=$(mktemp -d)
-    mv "crates/$1/must-fail" "$kept/edits"
-    trap 'rm -rf "crates/$1/must-fail"; mv "$kept/edits" "crates/$1/must-fail"; rmdir "$kept"' EXIT INT TERM
-    mkdir "crates/$1/must-fail"
+    mv "$edits" "$kept/edits"
+    trap 'rm -rf "$edits"; mv "$kept/edits" "$edits"; rmdir "$kept"' EXIT INT TERM
+    mkdir "$edits"
     cp docs/planted/"$1"/*.edit "crates/$1/must-fail/"
     rt must-fail "$1"
 }
