@@ -45,6 +45,14 @@ looks_on p q test a b c first second f g = record {
     by_middle k new old true is = first k (f.within k is old)
     by_middle k new old false is = second k (g.within k new is)
 
+-- a second step that reads nothing
+pub looks_before : {V : Type 0} (test p : CellKey → Bool) (a b c : Recording V) → c.reads ≡ b.reads → LooksAt test a b → LooksAt p b c → LooksAt test a c
+looks_before test p a b c same f g = record {
+  follows = follows_on a b c f.follows g.follows;
+  writes = g.writes ∙ f.writes;
+  within = λ k new old. f.within k (subst (λ (r : ReadSet). IsTrue (covers r k)) same new) old;
+}
+
 -- of more keys than are looked at
 pub looks_more : {V : Type 0} (p test : CellKey → Bool) (a b : Recording V) → ((k : CellKey) → IsTrue (p k) → IsTrue (test k)) → LooksAt p a b → LooksAt test a b
 looks_more p test a b more f = record { follows = f.follows; writes = f.writes; within = λ k new old. more k (f.within k new old) }

@@ -37,6 +37,7 @@ pub fn read_members<V: View>(
 ) -> Result<List<Id>, Stop<Refusal>>
     ensures looks { LooksAt (is_row_in (member_keys lids.now members.now)) recorder.old recorder.new }
     ensures sees { (schema : Types) → Sees schema V.cells recorder.old recorder.new (λ now. Judges at.now (first_of (map (refuse_member (is_there there now) lids.now linkage.now) members.now)) (λ ids. ids ≡ member_ids lids.now members.now) result) }
+    ensures unread { there ≡ There.Anywhere → recorder.new.reads ≡ recorder.old.reads }
 {
     each_member(alloc, at, linkage, &there, lids, members, recorder, work)
 }
@@ -55,6 +56,7 @@ fn each_member<V: View>(
     ensures looks { LooksAt (is_row_in (member_keys lids.now members.now)) recorder.old recorder.new }
     ensures ids { IfOk result (λ ids. ids ≡ member_ids lids.now members.now) }
     ensures sees { (schema : Types) → Sees schema V.cells recorder.old recorder.new (λ now. Judges at.now (first_of (map (refuse_member (is_there there.now now) lids.now linkage.now) members.now)) (λ ids. ids ≡ member_ids lids.now members.now) result) }
+    ensures unread { there.now ≡ There.Anywhere → recorder.new.reads ≡ recorder.old.reads }
 {
     let mut ids = Vec::new(alloc);
     for member in members {
@@ -86,6 +88,7 @@ fn read_member<V: View>(
     ensures looks { LooksAt (is_row_in (member_keys lids.now (member.now ∷ []))) recorder.old recorder.new }
     ensures id { IfOk result (λ id. member_ids lids.now (member.now ∷ []) ≡ id ∷ []) }
     ensures sees { (schema : Types) → Sees schema V.cells recorder.old recorder.new (λ now. Judges at.now (refuse_member (is_there there.now now) lids.now linkage.now member.now) (λ id. ⊤) result) }
+    ensures unread { there.now ≡ There.Anywhere → recorder.new.reads ≡ recorder.old.reads }
 {
     let Some(key) = key_of(lids, &member.named) else {
         let refusal = member_refusal(alloc, at, Code::UnknownLid, linkage, member)?;
@@ -108,6 +111,7 @@ fn is_there<V: View>(
 ) -> Result<bool, NoMemory>
     ensures looks { LooksAt (is_row_in (key.now ∷ [])) recorder.old recorder.new }
     ensures sees { (schema : Types) → Sees schema V.cells recorder.old recorder.new (λ now. IfOk result (λ b. b ≡ is_there there.now now key.now)) }
+    ensures unread { there.now ≡ There.Anywhere → recorder.new.reads ≡ recorder.old.reads }
 {
     match there {
         There::Anywhere => Ok(true),

@@ -165,7 +165,7 @@ fn thinned_row<V: View>(
     recorder: &mut Recorder<V>,
     work: &mut Work,
 ) -> Result<Rewrite, Stop<Refusal>>
-    ensures looks { LooksAt (is_row_in (target_keys lids.now who.now ++ member_keys lids.now members.now)) recorder.old recorder.new }
+    ensures looks { LooksAt (is_row_in (target_keys lids.now who.now)) recorder.old recorder.new }
     ensures sees { (schema : Types) → Sees schema V.cells recorder.old recorder.new (λ now. Judges at.now (refused schema now lids.now (operation.DropLinks who.now rel members.now)) (λ made. IsRewrite now lids.now who.now (on_link rel (filter (λ x. not (list_any (same_id x) (member_ids lids.now members.now))))) made.old made.new) result) }
 {
     let old = find_target(alloc, at, who, lids, recorder, work)?;

@@ -126,7 +126,7 @@ reach_operation w lids (Update who values links) k = is_row_in (target_keys lids
 reach_operation w lids (Remove who) k = is_row_in (target_keys lids who) k || is_back_to (target_keys lids who) k
 reach_operation w lids (SetLinks who rel members) k = is_row_in (target_keys lids who ++ member_keys lids members) k
 reach_operation w lids (AddLinks who rel members) k = is_row_in (target_keys lids who ++ member_keys lids members) k
-reach_operation w lids (DropLinks who rel members) k = is_row_in (target_keys lids who ++ member_keys lids members) k
+reach_operation w lids (DropLinks who rel members) k = is_row_in (target_keys lids who) k
 
 -- what is looked at after an operation, if that is not refused
 abbrev pub reach_rest : Result Changed Refusal → (Changed → Bool) → Bool

@@ -25,7 +25,10 @@ fn met_in<'a, V: View>(
 ) -> Option<(&'a CellKey, &'a Cell)>
     ensures value { IsMet from_top (V.cells view.now) span.now (option_map pair_now result) }
     ensures work { work.new.done ≡ counted work.old.done }
+    ensures rises { work.old.done ≤ work.new.done }
 {
+    // Reads the count, so that its range is known: one step more does not make it less.
+    let _before = work.done;
     if from_top {
         view.last_in(span, work)
     } else {
@@ -55,6 +58,7 @@ fn kept<'a, V: View>(
     requires { CanNarrow from_top span }
     ensures value { IsKept from_top (V.cells view.now) writes.now span (option_map pair_now put.now) (option_map pair_now result) }
     ensures work { work.new.done ≤ work.old.done + length writes.now + 1 }
+    ensures rises { work.old.done ≤ work.new.done }
 {
     let mut rest = span;
     while let Some((key, cell)) = met_in(from_top, view, &rest, work) {
@@ -92,12 +96,13 @@ fn walked<'a, V: View>(
     work: &mut Work,
 ) -> Option<(&'a CellKey, &'a Cell)>
     requires { IsBacks span }
-    ensures { IsMet true (unwritten (V.cells view.now) writes.now) span (option_map pair_now result) }
+    ensures value { IsMet true (unwritten (V.cells view.now) writes.now) span (option_map pair_now result) }
+    ensures rises { work.old.done ≤ work.new.done }
 {
     bound_backs(&span);
     let mut rest = span;
     let mut last = None;
-    while let Some((key, cell)) = view.first_in(&rest, work) {
+    while let Some((key, cell)) = met_in(false, view, &rest, work) {
         bound_key(key);
         last = unless_written(writes, last, key, cell);
         rest = narrowed(false, rest, key);
@@ -115,9 +120,10 @@ fn last_kept<'a, V: View>(
     work: &mut Work,
 ) -> Option<(&'a CellKey, &'a Cell)>
     requires { IsBacks span }
-    ensures { IsMet true (unwritten (V.cells view.now) writes.now) span (option_map pair_now result) }
+    ensures value { IsMet true (unwritten (V.cells view.now) writes.now) span (option_map pair_now result) }
+    ensures rises { work.old.done ≤ work.new.done }
 {
-    let Some((key, cell)) = view.last_in(&span, work) else {
+    let Some((key, cell)) = met_in(true, view, &span, work) else {
         return None;
     };
     match writes.at(key) {
@@ -152,6 +158,7 @@ impl<V: View> Overlaid<V> {
     pub(crate) fn first_in(&self, span: Span, work: &mut Work) -> Option<(&CellKey, &Cell)>
         ensures value { IsFirstIn (overlay (V.cells self.now.view) self.now.writes) span (option_map pair_now result) }
         ensures work { work.new.done ≤ work.old.done + length self.now.writes + 1 }
+        ensures rises { work.old.done ≤ work.new.done }
     {
         self.met(false, span, work)
     }
@@ -161,6 +168,7 @@ impl<V: View> Overlaid<V> {
         requires { CanNarrow from_top span }
         ensures value { IsMet from_top (overlay (V.cells self.now.view) self.now.writes) span (option_map pair_now result) }
         ensures work { work.new.done ≤ work.old.done + length self.now.writes + 1 }
+        ensures rises { work.old.done ≤ work.new.done }
     {
         let put = self.writes.met_put(from_top, &span);
         match kept(from_top, &self.view, &self.writes, span, &put, work) {
@@ -173,6 +181,7 @@ impl<V: View> Overlaid<V> {
     pub(crate) fn last_in(&self, span: Span, work: &mut Work) -> Option<(&CellKey, &Cell)>
         ensures value { IsLastIn (overlay (V.cells self.now.view) self.now.writes) span (option_map pair_now result) }
         ensures work { CanNarrow true span → work.new.done ≤ work.old.done + length self.now.writes + 1 }
+        ensures rises { work.old.done ≤ work.new.done }
     {
         match &span {
             Span::Rows { .. } => self.met(true, span, work),
@@ -183,7 +192,8 @@ impl<V: View> Overlaid<V> {
     /// The last cell of a span of ways back.
     fn last_back(&self, span: Span, work: &mut Work) -> Option<(&CellKey, &Cell)>
         requires { IsBacks span }
-        ensures { IsMet true (overlay (V.cells self.now.view) self.now.writes) span (option_map pair_now result) }
+        ensures value { IsMet true (overlay (V.cells self.now.view) self.now.writes) span (option_map pair_now result) }
+        ensures rises { work.old.done ≤ work.new.done }
     {
         let put = self.writes.met_put(true, &span);
         let Some((key, cell)) = last_kept(&self.view, &self.writes, span, work) else {

@@ -79,6 +79,7 @@ impl<V: View> Recorder<V> {
     ) -> Result<Option<(&CellKey, &Cell)>, NoMemory>
         ensures* after { sem 𝓛 (follows_so (the_row V.row) (the_row V.row) self.entry.ghost_name none (λ _ _. ⊤) (λ n. LookedFirst V.cells self.old span.now result n)) }
         ensures work { work.new.done ≤ work.old.done + length self.old.writes + 1 }
+        ensures rises { work.old.done ≤ work.new.done }
     {
         let alloc = self.alloc;
         let whole = span.copy(alloc)?;
@@ -106,6 +107,7 @@ impl<V: View> Recorder<V> {
     ) -> Result<Option<(&CellKey, &Cell)>, NoMemory>
         ensures* after { sem 𝓛 (follows_so (the_row V.row) (the_row V.row) self.entry.ghost_name none (λ _ _. ⊤) (λ n. LookedLast V.cells self.old span.now result n)) }
         ensures work { CanNarrow true span.now → work.new.done ≤ work.old.done + length self.old.writes + 1 }
+        ensures rises { work.old.done ≤ work.new.done }
     {
         let alloc = self.alloc;
         let whole = span.copy(alloc)?;

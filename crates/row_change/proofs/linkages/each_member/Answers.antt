@@ -55,6 +55,7 @@ loop-member-preserved g c =
           (sees_after schema g.V.View.cells (is_row_in (member_keys c.args.lids.now (take c.loop-member.member-index c.args.members.now))) c.args.recorder.now c.loop-member.recorder c.read_member.new.recorder
           (λ now. (refuse_member (is_there c.args.there.now now) c.args.lids.now c.args.linkage.now c.member-item.result ≡ None) × ⊤)
           c.loop-member.invariant.looks (c.in_ok-id.ensures.sees schema) w now behind leads).0;
+      unread = λ e. c.read_member.ensures.unread e ∙ c.loop-member.invariant.unread e;
     }
 
 pub returns-clause-sees : goal.returns-clause-sees
@@ -64,3 +65,9 @@ returns-clause-sees g c =
       ap (λ ms. first_of (map (refuse_member (is_there c.args.there.now now) c.args.lids.now c.args.linkage.now) ms)) (sym e) ∙ c.loop-member.invariant.sees schema w now behind leads,
       c.from_vec.ensures ∙ c.loop-member.invariant.ids ∙ ap (member_ids c.args.lids.now) e,
     )
+
+pub returns-in_err-id-clause-unread : goal.returns-in_err-id-clause-unread
+returns-in_err-id-clause-unread g c = λ e. c.read_member.ensures.unread e ∙ c.loop-member.invariant.unread e
+
+pub returns-in_err-push_id-clause-unread : goal.returns-in_err-push_id-clause-unread
+returns-in_err-push_id-clause-unread g c = λ e. c.read_member.ensures.unread e ∙ c.loop-member.invariant.unread e

@@ -3,6 +3,7 @@ use Rattle.std.specs.Prelude.{map}
 use Rattle.resource_schema.specs.declared.schema.Schema.{Schema}
 use Rattle.store_model.specs.Change.{first_of, refuse_member, member_ids}
 use Rattle.store_model.specs.Reach.{is_row_in, member_keys}
+use Rattle.row_change.specs.declared.stops.There.TheVariants as there
 use Rattle.row_change.specs.Steps.{LooksAt, Sees, is_there}
 use Rattle.row_change.proofs.linkages.each_member.Given as goal
 
@@ -11,4 +12,5 @@ invariant-loop-member g l = record {
   looks : LooksAt (is_row_in (member_keys l.lids (take l.member-index l.members))) l.fn.recorder l.recorder;
   ids : l.ids.items ≡ member_ids l.lids (take l.member-index l.members);
   sees : (schema : Schema) → Sees schema g.V.View.cells l.fn.recorder l.recorder (λ now. first_of (map (refuse_member (is_there l.there now) l.lids l.linkage) (take l.member-index l.members)) ≡ None);
+  unread : l.there ≡ there.Anywhere → l.recorder.reads ≡ l.fn.recorder.reads;
 }

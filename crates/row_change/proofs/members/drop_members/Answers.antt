@@ -1,10 +1,10 @@
-use Rattle.std.proofs.Common.{◌++◌, refl, None}
+use Rattle.std.proofs.Common.{refl, None}
 use Rattle.std.specs.Prelude.{not}
 use Rattle.std.specs.List.{filter, list_any}
 use Rattle.task_forms.specs.declared.operations.Operation.TheVariants as operation
 use Rattle.store_model.specs.Valid.{same_id}
 use Rattle.store_model.specs.Change.{member_ids, on_link}
-use Rattle.store_model.specs.Reach.{is_row_in, target_keys, member_keys}
+use Rattle.store_model.specs.Reach.{is_row_in, target_keys}
 use Rattle.row_change.specs.declared.updates.Rewrite.{Rewrite}
 use Rattle.row_change.specs.Rewrites.{IsRewrite}
 use Rattle.row_change.proofs.RewriteOutcomes.{stopped, rewritten}
@@ -21,7 +21,7 @@ pub returns-clause-outcome : goal.returns-clause-outcome
 returns-clause-outcome g c =
     rewritten c.args.schema.now g.V.View.cells c.args.at.now (operation.DropLinks c.args.who.now c.args.rel c.args.members.now) c.args.lids.now c.args.who.now
     (on_link c.args.rel (filter (λ x. not (list_any (same_id x) (member_ids c.args.lids.now c.args.members.now))))) None
-    c.in_ok-rewrite.rewrite.old c.in_ok-rewrite.rewrite.new (is_row_in (target_keys c.args.lids.now c.args.who.now ++ member_keys c.args.lids.now c.args.members.now))
+    c.in_ok-rewrite.rewrite.old c.in_ok-rewrite.rewrite.new (is_row_in (target_keys c.args.lids.now c.args.who.now))
     c.args.recorder.now c.thinned_row.new.recorder c.put_row.new.recorder
     (λ now. refl) (λ now. refl) (λ now named own. refl) (λ row. refl) (λ row. on_link_length c.args.rel (filter (λ x. not (list_any (same_id x) (member_ids c.args.lids.now c.args.members.now)))) row)
     c.thinned_row.ensures.looks (c.in_ok-rewrite.ensures.sees c.args.schema.now) c.in_ok-put_row.ensures.leaves c.in_ok-put_row.ensures.leads

@@ -1,4 +1,4 @@
-use Rattle.std.proofs.Common.{◌≡◌, ℕ, List, ap, ◌∙◌, None, Some, Option, Err, Ok}
+use Rattle.std.proofs.Common.{◌≡◌, ℕ, List, refl, ap, ◌∙◌, None, Some, Option, Err, Ok}
 use Rattle.std.specs.Prelude.{codes, map, not, true}
 use Rattle.std.specs.List.{filter, list_any}
 use Rattle.world_cells.specs.declared.rows.Row.{Row}
@@ -11,7 +11,7 @@ use Rattle.row_change.specs.declared.places.There.TheVariants as there
 use Rattle.row_change.specs.declared.updates.Rewrite.{Rewrite}
 use Rattle.row_change.specs.Steps.{Judges, is_there}
 use Rattle.row_change.specs.Rewrites.{IsRewrite}
-use Rattle.row_change.proofs.StepLaws.{sees_before, sees_after}
+use Rattle.row_change.proofs.StepLaws.{sees_before, sees_after, looks_before}
 use Rattle.row_change.proofs.Judging.{judges_passed}
 use Rattle.row_change.proofs.RewriteOutcomes.{first_told, then_told}
 use Rattle.row_change.proofs.MemberSteps.{judged_members}
@@ -59,3 +59,15 @@ returns-clause-sees g c = λ schema w now behind leads.
         changed = c.in_ok-new.ensures ∙ ap (λ ids. on_link c.args.rel (λ before. ids) c.in_ok-old.old) (c.in_ok-ids.ensures ∙ ap (λ ds. filter (λ x. not (list_any (same_id x) ds)) c.linked_ids.result.now) (c.as_slice-2.ensures ∙ second.1) ∙ ap (filter (λ x. not (list_any (same_id x) (member_ids c.args.lids.now c.args.members.now)))) c.linked_ids.ensures);
       },
     )
+
+pub returns-in_err-dropped-clause-looks : goal.returns-in_err-dropped-clause-looks
+returns-in_err-dropped-clause-looks g c = looks_before _ _ _ _ _ (c.read_members.ensures.unread refl) c.find_target.ensures.looks c.read_members.ensures.looks
+
+pub returns-in_err-ids-clause-looks : goal.returns-in_err-ids-clause-looks
+returns-in_err-ids-clause-looks g c = looks_before _ _ _ _ _ (c.read_members.ensures.unread refl) c.find_target.ensures.looks c.read_members.ensures.looks
+
+pub returns-in_err-new-clause-looks : goal.returns-in_err-new-clause-looks
+returns-in_err-new-clause-looks g c = looks_before _ _ _ _ _ (c.read_members.ensures.unread refl) c.find_target.ensures.looks c.read_members.ensures.looks
+
+pub returns-clause-looks : goal.returns-clause-looks
+returns-clause-looks g c = looks_before _ _ _ _ _ (c.read_members.ensures.unread refl) c.find_target.ensures.looks c.read_members.ensures.looks

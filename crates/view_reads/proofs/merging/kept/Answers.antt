@@ -7,6 +7,7 @@ pub loop-key-init : goal.loop-key-init
 loop-key-init g c = record {
   left = left_all c.args.from_top (g.V.View.cells c.args.view.now) c.args.writes.now c.args.span c.requires;
   work = omega (arith, at_most_all c.args.span c.args.writes.now);
+  rises = omega arith;
 }
 
 pub returns-then-not-is_met_before-clause-value : goal.returns-then-not-is_met_before-clause-value
@@ -28,4 +29,5 @@ loop-key-preserved g c =
       left = subst (λ (s : Span). IsLeft c.args.from_top (g.V.View.cells c.args.view.now) c.args.writes.now c.args.span s) (sym c.narrowed-rest.ensures)
           (left_past c.args.from_top (g.V.View.cells c.args.view.now) c.args.writes.now c.args.span c.loop-key.rest (c.in-Some.key.now, c.in-Some.cell.now) there.0 c.loop-key.invariant.left c.in-Some.ensures.value there.1);
       work = work_step _ _ _ _ (keys_in c.loop-key.rest c.args.writes.now) (keys_in c.narrowed-rest.result c.args.writes.now) c.in-Some.ensures.work c.loop-key.invariant.work fewer;
+      rises = omega (arith, c.loop-key.invariant.rises, c.in-Some.ensures.rises);
     }

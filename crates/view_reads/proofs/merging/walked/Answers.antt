@@ -1,4 +1,4 @@
-use Rattle.std.proofs.Common.{◌<◌, sym, subst}
+use Rattle.std.proofs.Common.{◌<◌, sym, subst, arith}
 use Rattle.std.specs.Option.{option_map}
 use Rattle.world_cells.specs.declared.spans.Span.{Span}
 use Rattle.view_reads.specs.Bounds.{IsBoundedBacks}
@@ -17,7 +17,8 @@ loop-key-preserved g c = record {
   bounded = subst IsBoundedBacks (sym c.narrowed-rest.ensures) (still_bounded c.loop-key.rest c.in-Some.key.now c.loop-key.invariant.bounded c.bound_key.ensures c.in-Some.ensures.value.0);
   walked = walk_on _ c.args.writes.now c.args.span c.loop-key.rest (option_map pair_now c.loop-key.last) (c.in-Some.key.now, c.in-Some.cell.now) c.narrowed-rest.result (option_map pair_now c.unless_written-last.result)
       c.narrowed-rest.ensures c.unless_written-last.ensures c.loop-key.invariant.walked c.in-Some.ensures.value;
+  rises = omega (arith, c.loop-key.invariant.rises, c.in-Some.ensures.rises);
 }
 
-pub returns : goal.returns
-returns g c = walk_end (g.V.View.cells c.args.view.now) c.args.writes.now c.args.span c.loop-key.rest (option_map pair_now c.loop-key.last) c.loop-key.invariant.walked c.in_default.ensures.value
+pub returns-clause-value : goal.returns-clause-value
+returns-clause-value g c = walk_end (g.V.View.cells c.args.view.now) c.args.writes.now c.args.span c.loop-key.rest (option_map pair_now c.loop-key.last) c.loop-key.invariant.walked c.in_default.ensures.value

@@ -1,3 +1,4 @@
+use Rattle.std.specs.Prelude.{◌≤◌}
 use Rattle.std.specs.Option.{option_map}
 use Rattle.view_reads.specs.Bounds.{IsBoundedBacks}
 use Rattle.view_reads.specs.Merging.{unwritten}
@@ -10,6 +11,7 @@ abbrev pub invariant-loop-key : goal.invariant-loop-key
 invariant-loop-key g l = record {
   bounded : IsBoundedBacks l.rest;
   walked : IsWalked (unwritten (g.V.View.cells l.view) l.writes) l.fn.span l.rest (option_map pair_now l.last);
+  rises : l.fn.work.done ≤ l.work.done;
 }
 
 abbrev pub decreases-loop-key : goal.decreases-loop-key
