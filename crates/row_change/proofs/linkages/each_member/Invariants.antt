@@ -3,7 +3,7 @@ use Rattle.std.specs.Prelude.{map}
 use Rattle.resource_schema.specs.declared.schema.Schema.{Schema}
 use Rattle.store_model.specs.Change.{first_of, refuse_member, member_ids}
 use Rattle.store_model.specs.Reach.{is_row_in, member_keys}
-use Rattle.row_change.specs.declared.stops.There.TheVariants as there
+use Rattle.row_change.specs.declared.places.There.TheVariants as there
 use Rattle.row_change.specs.Steps.{LooksAt, Sees, is_there}
 use Rattle.row_change.proofs.linkages.each_member.Given as goal
 
