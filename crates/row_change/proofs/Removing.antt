@@ -25,6 +25,7 @@ use Rattle.ident_rules.specs.declared.stops.Stop.TheVariants.{Because, NoMemory}
 use Rattle.row_change.specs.Trial.{StandsBehind, IsOutcome, TellsChange, StaysInReach, read_of}
 use Rattle.row_change.specs.Steps.{LooksAt, Sees, Judges, LeavesReads, LeadsOn}
 use Rattle.row_change.proofs.StepLaws.{sees_before, sees_after}
+use Rattle.row_change.proofs.Judging.{err_passed}
 
 -- ---- the row that is named
 

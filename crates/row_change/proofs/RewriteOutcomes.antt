@@ -28,6 +28,7 @@ use Rattle.row_change.specs.Steps.{LooksAt, Sees, Judges, LeavesReads, LeadsOn}
 use Rattle.row_change.specs.Rewrites.{IsRewrite}
 use Rattle.std.proofs.lemmas.Slice.Zip.{AllZip-long}
 use Rattle.std.proofs.lemmas.List.{length-set}
+use Rattle.row_change.proofs.Judging.{err_passed}
 
 -- ---- without a value
 
