@@ -6,7 +6,7 @@ use Rattle.std.specs.Option.{option_map}
 use Rattle.std.specs.declared.option.Option.{Option}
 use Rattle.outer_ends.specs.declared.traits.OpenEnd.{OpenEnd}
 use Rattle.outer_ends.specs.declared.traits.OpenEnd.TheVariants as end
-use Rattle.outer_ends.specs.Causes.{Rose}
+use Rattle.outer_ends.specs.Causes.{Rose, one_more}
 
 -- the bytes of the first file of that name, in a list of names and bytes
 abbrev pub bytes_of : List ℕ → List (List ℕ × List ℕ) → Option (List ℕ)
@@ -23,6 +23,12 @@ abbrev pub HasFaults : {S : Type 0} → ℕ → ℕ → Result S OpenEnd → Typ
 HasFaults before now (Ok source) = now ≡ before
 HasFaults before now (Err end.Missing) = now ≡ before
 HasFaults before now (Err end.Failed) = (before ≤ now) × Rose before now
+
+-- a miss is one more miss, and a fault one more fault
+abbrev pub CountsOne : {S : Type 0} → ℕ → ℕ → ℕ → ℕ → Result S OpenEnd → Type 0
+CountsOne misses misses_now faults faults_now (Ok source) = ⊤
+CountsOne misses misses_now faults faults_now (Err end.Missing) = misses_now ≡ one_more misses
+CountsOne misses misses_now faults faults_now (Err end.Failed) = faults_now ≡ one_more faults
 
 -- an opened source has taken nothing, where it tells what it took, and has not failed
 pub record IsFresh (taken : Option (List ℕ)) (faults : ℕ) : Type 0 where

@@ -1,8 +1,9 @@
-ghost use Rattle.std.specs.Prelude.{◌≡◌, IfOk, IsTrue, map, find, string_bytes, Some, IsErrAnd};
+ghost use Rattle.std.specs.Prelude.{◌≡◌, ◌<◌, IfOk, IsTrue, map, find, string_bytes, Some, None, IsErrAnd, false};
 ghost use Rattle.std.specs.Str.{bytes_eq};
 ghost use Rattle.std.specs.Option.{option_copied, option_map};
 ghost use Rattle.outer_ends.specs.Memory.{file_state, file_named, opened};
-ghost use Rattle.outer_ends.specs.Opens.{bytes_of, HasMisses, HasFaults, IsFresh, Opens, AddsFaults};
+ghost use Rattle.outer_ends.specs.Causes.{one_more};
+ghost use Rattle.outer_ends.specs.Opens.{bytes_of, HasMisses, HasFaults, CountsOne, IsFresh, Opens, AddsFaults};
 
 use crate::{MemorySource, OpenEnd, Opener};
 use std::alloc::{AllocError, Global};
@@ -117,10 +118,12 @@ impl Opener for MemoryOpener {
     fn open(&mut self, name: &str) -> Result<MemorySource, OpenEnd>
         ensures misses { HasMisses self.old.misses self.new.misses result }
         ensures faults { HasFaults self.old.faults self.new.faults result }
+        ensures one { CountsOne self.old.misses self.new.misses self.old.faults self.new.faults result }
         ensures fresh { IfOk result (λ source. IsFresh (Some source.taken) source.faults) }
         ensures found { Opens (λ source. Some source.left) (bytes_of name.now (map named_bytes self.old.files)) result }
         ensures files { self.new.files ≡ self.old.files }
         ensures fails { IsTrue (is_next_failing self.old.failing self.old.calls) → IsErrAnd result (λ end. end ≡ OpenEnd.Failed) }
+        ensures missing { file_named name.now self.old.files ≡ None → is_next_failing self.old.failing self.old.calls ≡ false → IsErrAnd result (λ end. end ≡ OpenEnd.Missing) }
         ensures source { IfOk result (λ source. option_map opened (file_named name.now self.old.files) ≡ Some source) }
         ensures calls { self.new.calls ≡ next_call self.old.calls }
         ensures script { self.new.failing ≡ self.old.failing }
@@ -147,6 +150,7 @@ impl Opener for MemoryOpener {
 
     fn done(&mut self, source: MemorySource)
         ensures faults { AddsFaults source.faults self.old.faults self.new.faults }
+        ensures one { 0 < source.faults → self.new.faults ≡ one_more self.old.faults }
         ensures others { self.new ≡ record self.old { faults = self.new.faults } }
     {
         if source.faults() > 0 {

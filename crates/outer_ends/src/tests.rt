@@ -1,5 +1,5 @@
 use crate::{
-    Failed, FileOpener, MemoryOpener, MemorySink, MemorySource, OpenEnd, Opener, Source,
+    Failed, FileOpener, MemoryOpener, MemorySink, MemorySource, OpenEnd, Opener, Sink, Source,
     StreamSink, StreamSource, send_all, send_more,
 };
 use std::alloc::Global;
@@ -191,6 +191,7 @@ fn streams_pass_bytes_on(rt: HostRuntime) -> Result<(), Fail> {
     let inner = Vec::new(alloc);
     let mut sink = StreamSink::new(Short { inner, calls: 2 });
     assert!(rt; send_all(b"ten bytes.", &mut sink).is_ok());
+    assert_eq!(rt; sink.write(b""), Ok(0), "a write of nothing is no fault");
     assert_eq!(rt; sink.faults(), 0);
     assert_eq!(rt;
         sink.into_inner().inner.as_slice(),

@@ -44,3 +44,26 @@ pub returns-in-None-clause-fails : goal.returns-in-None-clause-fails
 returns-in-None-clause-fails c failing =
     let no : ⊥ = search rules in
     absurd no
+
+pub returns-then-contains-clause-missing : goal.returns-then-contains-clause-missing
+returns-then-contains-clause-missing c none calm =
+    let no : ⊥ = search rules in
+    absurd no
+
+-- where the look-up found a file, the name is there
+found_is_not_none : (found : Option FileState) (file : FileState) → found ≡ Some file → found ≡ None → ⊥
+found_is_not_none found file is none = cc (sym is ∙ none)
+
+pub returns-in-Ok-clause-missing : goal.returns-in-Ok-clause-missing
+returns-in-Ok-clause-missing c none calm =
+    let name = c.args.name.now in
+    let named : file_named name c.args.self.now.files ≡ Some (file_state c.in-Some.file.now) =
+    named_state name c.args.self.now c.self.inside.files.items _ (ap (λ (s : OpenerState). s.files) c.self.view_is) (c.in-Some.ensures ∙ ap (find (λ f. bytes_eq (string_bytes f.0) name)) c.deref-2.ensures.value) in
+    found_is_not_none _ _ named none
+
+pub returns-in-Err-clause-missing : goal.returns-in-Err-clause-missing
+returns-in-Err-clause-missing c none calm =
+    let name = c.args.name.now in
+    let named : file_named name c.args.self.now.files ≡ Some (file_state c.in-Some.file.now) =
+    named_state name c.args.self.now c.self.inside.files.items _ (ap (λ (s : OpenerState). s.files) c.self.view_is) (c.in-Some.ensures ∙ ap (find (λ f. bytes_eq (string_bytes f.0) name)) c.deref-2.ensures.value) in
+    absurd (found_is_not_none _ _ named none)
