@@ -7,6 +7,7 @@ use http_messages::Framing;
 use ident_rules::NoMemory;
 use outer_ends::MemorySource;
 use std::alloc::Global;
+use std::test::Fail;
 
 // What a source of these bytes gives, in pieces of that size, where the read of that number fails; and how many
 // bytes stay in the buffer.
@@ -100,4 +101,13 @@ fn keeps_what_follows(rt: HostRuntime) {
     assert_eq!(rt; kept_of(&chunked), 5);
     let fault = take(rt.alloc(), b"3\r\nabc\r\n0\r\n\r\n", Framing::Chunked, 2, 4);
     assert_eq!(rt; name_of(&fault, b"abc"), "fault");
+}
+
+#[test]
+fn takes_a_long_body(rt: HostRuntime) -> Result<(), Fail> {
+    let bytes = vec![in rt.alloc(); b'a'; 40_000]?;
+    let size = Framing::Length(40_000);
+    let end = take(rt.alloc(), bytes.as_slice(), size, 4_096, 0);
+    assert_eq!(rt; name_of(&end, bytes.as_slice()), "body");
+    Ok(())
 }

@@ -2,7 +2,7 @@ use crate::{
     decode_segment, read_segment, related_link, relationship_link, resource_link, split_target,
     with_query,
 };
-use ident_rules::{Id, Text, read_name};
+use ident_rules::{Id, Text, read_id, read_name};
 use std::test::Fail;
 
 #[test]
@@ -64,6 +64,13 @@ fn writes_links(rt: HostRuntime) -> Result<(), Fail> {
     let rel = read_name("author").expect(&rt, "a name");
     let id = Id::of_number(12);
     assert_eq!(rt; resource_link(alloc, &kind, &id)?.as_str(), "/articles/12");
+    let longest = read_id(
+        "0123456789abcdef0123456789abcdef0123456789abcdef0123456789abcdef",
+    ).expect(&rt, "an id");
+    assert_eq!(rt;
+        resource_link(alloc, &kind, &longest)?.as_str(),
+        "/articles/0123456789abcdef0123456789abcdef0123456789abcdef0123456789abcdef"
+    );
     assert_eq!(rt;
         related_link(alloc, &kind, &id, &rel)?.as_str(),
         "/articles/12/author"
