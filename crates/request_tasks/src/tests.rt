@@ -1,9 +1,9 @@
-ghost use Rattle.std.specs.Prelude.{◌≡◌, codes};
-
 use crate::{LentTasks, RequestTasks};
 use http_messages::{Allow, Field, Message, Reply};
-use ident_rules::{Bytes, List, Name, NoMemory, Text, read_name};
-use resource_schema::{Kind, Relationship, Schema};
+use ident_rules::{Bytes, List, NoMemory, Text};
+use json_forms::parse;
+use resource_schema::Schema;
+use schema_file::{SchemaEnd, read_schema};
 use std::alloc::{AllocError, Global};
 use std::test::Fail;
 use task_forms::{Operation, Plan, Planner, ReplyForm, Task};
@@ -212,75 +212,19 @@ fn plans_requests_of_notes(rt: HostRuntime) -> Result<(), Fail> {
     Ok(())
 }
 
-fn articles_name() -> Name
-    ensures { result ≡ codes "articles" }
-{
-    let Ok(name) = read_name("articles") else {
-        unreachable!()
-    };
-    name
+/// Articles with one author and many readers, and people.
+const BLOG: &str =
+    "{\"types\":{\"articles\":{\"client-ids\":true,\"relationships\":{\"author\":{\"kind\":\"one\",\"target\":\"people\"},\"readers\":{\"kind\":\"many\",\"target\":\"people\"}}},\"people\":{}}}";
+
+fn blog(alloc: Global) -> Result<Schema, SchemaEnd> {
+    match parse(alloc, BLOG.as_bytes())? {
+        Some(value) => read_schema(alloc, &value),
+        None => Err(SchemaEnd::NoMemory),
+    }
 }
 
-fn people_name() -> Name
-    ensures { result ≡ codes "people" }
-{
-    let Ok(name) = read_name("people") else {
-        unreachable!()
-    };
-    name
-}
-
-fn author_name() -> Name
-    ensures { result ≡ codes "author" }
-{
-    let Ok(name) = read_name("author") else {
-        unreachable!()
-    };
-    name
-}
-
-fn readers_name() -> Name
-    ensures { result ≡ codes "readers" }
-{
-    let Ok(name) = read_name("readers") else {
-        unreachable!()
-    };
-    name
-}
-
-// Articles with one author and many readers, and people.
-fn blog(alloc: Global) -> Result<Schema, NoMemory> {
-    let mut relationships = Vec::new(alloc);
-    relationships.push(Relationship {
-        name: author_name(),
-        many: false,
-        target: 1,
-    })?;
-    relationships.push(Relationship {
-        name: readers_name(),
-        many: true,
-        target: 1,
-    })?;
-    let articles = Kind {
-        name: articles_name(),
-        client_ids: true,
-        attributes: List::from_vec(Vec::new(alloc)),
-        relationships: List::from_vec(relationships),
-    };
-    let people = Kind {
-        name: people_name(),
-        client_ids: false,
-        attributes: List::from_vec(Vec::new(alloc)),
-        relationships: List::from_vec(Vec::new(alloc)),
-    };
-    let mut kinds = Vec::new(alloc);
-    kinds.push(articles)?;
-    kinds.push(people)?;
-    Ok(Schema::from_kinds(List::from_vec(kinds)))
-}
-
-fn tasks_of_blog(alloc: Global) -> Result<RequestTasks, NoMemory> {
-    RequestTasks::new(alloc, &blog(alloc)?)
+fn tasks_of_blog(alloc: Global) -> Result<RequestTasks, SchemaEnd> {
+    Ok(RequestTasks::new(alloc, &blog(alloc)?)?)
 }
 
 #[test]

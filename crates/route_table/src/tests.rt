@@ -1,10 +1,9 @@
-ghost use Rattle.std.specs.Prelude.{◌≡◌, codes};
-
 use crate::{allow_of, allows, find_target, need_of};
 use http_messages::Allow;
-use ident_rules::{List, Name, NoMemory, read_name};
+use json_forms::parse;
 use request_model::Need;
-use resource_schema::{Kind, Relationship, Schema, Target};
+use resource_schema::{Schema, Target};
+use schema_file::{SchemaEnd, read_schema};
 use std::alloc::{AllocError, Global};
 use std::test::Fail;
 
@@ -66,71 +65,15 @@ fn finds_targets_of_notes(rt: HostRuntime) -> Result<(), Fail> {
     Ok(())
 }
 
-fn articles_name() -> Name
-    ensures { result ≡ codes "articles" }
-{
-    let Ok(name) = read_name("articles") else {
-        unreachable!()
-    };
-    name
-}
+/// Articles with one author and many readers, and people.
+const BLOG: &str =
+    "{\"types\":{\"articles\":{\"client-ids\":true,\"relationships\":{\"author\":{\"kind\":\"one\",\"target\":\"people\"},\"readers\":{\"kind\":\"many\",\"target\":\"people\"}}},\"people\":{}}}";
 
-fn people_name() -> Name
-    ensures { result ≡ codes "people" }
-{
-    let Ok(name) = read_name("people") else {
-        unreachable!()
-    };
-    name
-}
-
-fn author_name() -> Name
-    ensures { result ≡ codes "author" }
-{
-    let Ok(name) = read_name("author") else {
-        unreachable!()
-    };
-    name
-}
-
-fn readers_name() -> Name
-    ensures { result ≡ codes "readers" }
-{
-    let Ok(name) = read_name("readers") else {
-        unreachable!()
-    };
-    name
-}
-
-// Articles with one author and many readers, and people.
-fn blog(alloc: Global) -> Result<Schema, NoMemory> {
-    let mut relationships = Vec::new(alloc);
-    relationships.push(Relationship {
-        name: author_name(),
-        many: false,
-        target: 1,
-    })?;
-    relationships.push(Relationship {
-        name: readers_name(),
-        many: true,
-        target: 1,
-    })?;
-    let articles = Kind {
-        name: articles_name(),
-        client_ids: true,
-        attributes: List::from_vec(Vec::new(alloc)),
-        relationships: List::from_vec(relationships),
-    };
-    let people = Kind {
-        name: people_name(),
-        client_ids: false,
-        attributes: List::from_vec(Vec::new(alloc)),
-        relationships: List::from_vec(Vec::new(alloc)),
-    };
-    let mut kinds = Vec::new(alloc);
-    kinds.push(articles)?;
-    kinds.push(people)?;
-    Ok(Schema::from_kinds(List::from_vec(kinds)))
+fn blog(alloc: Global) -> Result<Schema, SchemaEnd> {
+    match parse(alloc, BLOG.as_bytes())? {
+        Some(value) => read_schema(alloc, &value),
+        None => Err(SchemaEnd::NoMemory),
+    }
 }
 
 #[test]
