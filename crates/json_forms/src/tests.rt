@@ -44,7 +44,8 @@ fn knows_json(rt: HostRuntime) -> Result<(), std::alloc::AllocError> {
     let alloc = rt.alloc();
     let deepest = nested(alloc, 127)?;
     let too_deep = nested(alloc, 128)?;
-    let rows: [(&[u8], bool); 14] = [
+    let long = nested(alloc, 40000)?;
+    let rows: [(&[u8], bool); 15] = [
         (b"null", true),
         (b"\xef\xbb\xbfnull", false),
         (b"\t[1, 2.5e3, \"\\u00e9\"]\r\n", true),
@@ -59,6 +60,7 @@ fn knows_json(rt: HostRuntime) -> Result<(), std::alloc::AllocError> {
         (b"1e400", false),
         (deepest.as_slice(), true),
         (too_deep.as_slice(), false),
+        (long.as_slice(), false),
     ];
     for (at, (bytes, is_json)) in rows.iter().enumerate() {
         match parse(alloc, bytes) {
