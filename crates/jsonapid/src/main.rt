@@ -6,6 +6,7 @@
 
 #[cfg(test)]
 mod bad_messages;
+mod commands;
 mod connections;
 mod notices;
 #[cfg(test)]
@@ -21,10 +22,9 @@ mod schemas;
 #[cfg(test)]
 mod tests;
 
+use commands::command;
 use ident_rules::{NoMemory, Text};
-use notices::notice_for;
-use outer_ends::{Failed, FileOpener, StreamSink, StreamSource, send_all};
-use pipes::pipe_command;
+use outer_ends::{FileOpener, StreamSink, StreamSource};
 use std::alloc::Global;
 use std::env::{self, Env};
 use std::fs::Files;
@@ -43,18 +43,12 @@ fn words(rt: &(impl Env + AllocGlobal), alloc: Global) -> Result<Vec<Text>, NoMe
     Ok(words)
 }
 
-/// Serves standard input, and answers the exit status.
+/// Does what the words ask for on standard input and output, and answers the exit status.
 fn run(rt: &(impl Input + Print + Files + AllocGlobal), alloc: Global, words: &[Text]) -> u8 {
     let mut sink = StreamSink::new(io::writer(rt));
-    if let Some(notice) = notice_for(words) {
-        return match send_all(notice.as_bytes(), &mut sink) {
-            Ok(()) => 0,
-            Err(Failed) => 1,
-        };
-    }
     let mut source = StreamSource::new(rt.reader());
     let mut opener = FileOpener::new(rt);
-    pipe_command(alloc, words, &mut opener, &mut source, &mut sink)
+    command(alloc, words, &mut opener, &mut source, &mut sink)
 }
 
 fn main(rt: HostRuntime) -> ExitCode {

@@ -1,5 +1,6 @@
-ghost use Rattle.std.specs.Prelude.{◌≡◌, option_map};
+ghost use Rattle.std.specs.Prelude.{◌≡◌, IsFalse, IsNone, IsSome, option_map};
 ghost use Rattle.jsonapid.specs.Notices.{notice_for, help_text, version_text};
+ghost use Rattle.jsonapid.specs.Pipes.{is_pipe, path_of};
 
 use ident_rules::Text;
 
@@ -19,7 +20,8 @@ fn version_text() -> &'static str
 
 /// What is printed for `--help` and for `--version`, where one of them is the only word.
 pub fn notice_for(words: &[Text]) -> Option<&'static str>
-    ensures { option_map (λ t. t.now) result ≡ notice_for words.now }
+    ensures text { option_map (λ t. t.now) result ≡ notice_for words.now }
+    ensures others { IsSome result → IsFalse (is_pipe words.now) × IsNone (path_of words.now) }
 {
     match words {
         [word] if word.as_str() == "--help" => Some(help_text()),

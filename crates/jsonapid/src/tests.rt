@@ -1,5 +1,5 @@
-//! The answers of `pipe`, byte for byte, over ends in memory, where memory is ample.
-use crate::pipes::pipe_command;
+//! The answers of the program, byte for byte, over ends in memory, where memory is ample.
+use crate::commands::command;
 use ident_rules::{NoMemory, Text};
 use outer_ends::{MemoryOpener, MemorySink, MemorySource};
 use std::alloc::Global;
@@ -91,7 +91,7 @@ pub(crate) fn run_words(
         vec![in alloc; failing.source]?,
     );
     let mut sink = MemorySink::new(alloc, vec![in alloc; failing.sink]?);
-    let status = pipe_command(alloc, words.as_slice(), &mut opener, &mut source, &mut sink);
+    let status = command(alloc, words.as_slice(), &mut opener, &mut source, &mut sink);
     let reads = source.calls();
     Ok(Ran {
         status,
@@ -182,10 +182,12 @@ fn answers_by_the_table(rt: HostRuntime) {
 
 #[test]
 fn tells_faults_and_words(rt: HostRuntime) {
-    let rows: [(&str, (u64, u64), &[u8], u8); 3] = [
+    let rows: [(&str, (u64, u64), &[u8], u8); 5] = [
         ("pipe", (1, 0), b"", 1),
         ("pipe", (0, 2), CREATED, 1),
         ("serve", (0, 0), b"jsonapid: words\n", 2),
+        ("--version", (0, 0), b"jsonapid 0.1.0\n", 0),
+        ("--version", (0, 1), b"", 1),
     ];
     for (at, (word, failing, output, wanted)) in rows.iter().enumerate() {
         match run(rt.alloc(), word, POST_AND_GET, true, *failing) {
