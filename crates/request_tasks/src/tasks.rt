@@ -8,12 +8,12 @@ ghost use Rattle.request_model.specs.Targets.{allow_of, need_of};
 ghost use Rattle.request_tasks.specs.BuiltPlans.{is_built, task_or_reply_so_far, task_so_far};
 ghost use Rattle.ident_rules.specs.Stops.{Gives};
 
-use ident_rules::Stop;
 use crate::changes::change_without_query;
 use crate::fetches::{fetch_of, is_fetch, is_page};
 use crate::replies::{not_allowed, or_reply, refuse, refuse_header, reply_with};
 use error_objects::{Code, Refusal};
 use http_messages::{Field, Message, Reply};
+use ident_rules::Stop;
 use media_types::{Judged, accept_ok, content_ok};
 use resource_schema::{Schema, Target};
 use route_table::{allow_of, allows, find_target, need_of};
