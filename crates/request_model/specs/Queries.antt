@@ -17,7 +17,6 @@ use Rattle.resource_schema.specs.declared.targets.Target.{Target}
 use Rattle.resource_schema.specs.declared.targets.Target.TheVariants as target
 use Rattle.task_forms.specs.declared.queries.Path.{Path}
 use Rattle.task_forms.specs.declared.queries.SortKey.{SortKey}
-use Rattle.task_forms.specs.declared.queries.Page.{Page}
 use Rattle.task_forms.specs.declared.queries.Query.{Query}
 use Rattle.task_forms.specs.Queries.{first_page, no_query}
 use Rattle.error_objects.specs.declared.codes.Code.{Code}

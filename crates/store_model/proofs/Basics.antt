@@ -3,18 +3,12 @@ use Rattle.std.proofs.Common.{◌≡◌, ℕ, List, [], ◌∷◌, ◌++◌, Boo
 use Rattle.std.specs.Prelude.{T, ◌||◌, ◌&&◌, ◌⊎◌, not, cond, map, slice_get, slice_set, get_or}
 use Rattle.std.specs.Option.{option_map_or}
 use Rattle.std.specs.declared.cmp.Ordering.{Ordering}
-use Rattle.std.specs.declared.cmp.Ordering.TheVariants.{Less, Equal, Greater}
-use Rattle.std.specs.Ordering.{is_eq, is_lt, ordering_reverse, eq_by_cmp}
-use Rattle.std.specs.Cmp.{IsTotalOrder, tied_itself}
-use Rattle.std.specs.FinMap.Entries.{find, is_sorted, below_all}
+use Rattle.std.specs.Ordering.{is_lt}
+use Rattle.std.specs.FinMap.Entries.{is_sorted, below_all}
 use Rattle.store_model.specs.Laws.{Pairwise}
 use Rattle.std.specs.List.{AllByRecursion, AllZip, list_any, flat_map, filter}
 use Rattle.std.proofs.lemmas.List.Folds.{list_any-append}
-use Rattle.std.proofs.lemmas.Bool.{or_left, or_right}
 use Rattle.store_model.specs.LinkLaws.{T_and, below_in}
-use Rattle.ident_rules.specs.declared.key.Key.{Key}
-use Rattle.ident_rules.specs.Key.{key_cmp, same_key, key_cmp-IsAntisymmetric}
-use Rattle.world_cells.specs.declared.rows.Row.{Row}
 use Rattle.world_cells.specs.Lists.{IsIn}
 
 -- ---- tests

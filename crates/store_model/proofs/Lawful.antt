@@ -1,13 +1,12 @@
 -- The store's tasks keep what every subject keeps: among it, that a fit task keeps a valid world valid.
-use Rattle.std.proofs.Common.{◌≡◌, ℕ, ◌+◌, ◌<◌, ◌≤◌, List, [], ◌∷◌, Bool, true, false, refl, sym, ap, subst, ◌∙◌, Some, None, Option, arith, inl, inr, zero, suc}
-use Rattle.std.specs.Prelude.{⊤, ◌⊎◌, ◌&&◌, not, cond, length, map, get_or, is_some, Result, Ok, Err}
+use Rattle.std.proofs.Common.{◌≡◌, ℕ, ◌+◌, ◌≤◌, List, [], ◌∷◌, Bool, true, false, refl, sym, ap, subst, ◌∙◌, Some, None, Option, arith}
+use Rattle.std.specs.Prelude.{⊤, ◌&&◌, not, cond, length, is_some, Result, Ok, Err}
 use Rattle.std.specs.Option.{option_map_or, option_and_then}
 use Rattle.std.specs.List.{AllByRecursion, list_any, range_with_len}
 use Rattle.std.specs.FinMap.Entries.{is_sorted-where_key}
 use Rattle.ident_rules.specs.declared.key.Key.{Key}
 use Rattle.resource_schema.specs.declared.schema.Schema.{Schema}
 use Rattle.world_cells.specs.declared.rows.Row.{Row}
-use Rattle.world_cells.specs.declared.rows.Link.{Link}
 use Rattle.world_cells.specs.declared.keys.CellKey.{CellKey}
 use Rattle.world_cells.specs.declared.keys.CellKey.TheVariants as cell_key
 use Rattle.task_forms.specs.declared.operations.Who.{Who}
@@ -20,15 +19,13 @@ use Rattle.error_objects.specs.declared.codes.Code.TheVariants as code
 use Rattle.task_forms.specs.declared.operations.Operation.{Operation}
 use Rattle.task_forms.specs.declared.operations.Operation.TheVariants.{Create, Update, Remove, SetLinks, AddLinks, DropLinks}
 use Rattle.ident_rules.specs.Key.{key_cmp, same_key, key_is}
-use Rattle.world_cells.specs.World.{World, empty_world, row_at, cell_at, no_link, links_to, ids_of}
-use Rattle.resource_schema.specs.Kinds.{target_of}
+use Rattle.world_cells.specs.World.{World, empty_world, row_at, cell_at, links_to}
 use Rattle.store_model.specs.Valid.{IsValidRow, IsValid}
 use Rattle.store_model.specs.Change.{Lids, key_of, at_target, when, refused, done, outcome, refuse_target, is_referenced, without_row}
 use Rattle.store_model.specs.Run.{Ran, run, run_from, and_then, after_one, operation_pointer}
 use Rattle.store_model.specs.Answer.{answer, effect, run_world, run_reply, done_reply, results_reply, results_data, is_create}
 use Rattle.serde_json.specs.Data.{Data}
 use Rattle.task_forms.specs.Fit.{FitsOperation, IsFit}
-use Rattle.world_cells.specs.Lists.{IsIn}
 use Rattle.task_forms.specs.Meaning.{IsLawful}
 use Rattle.store_model.specs.StoreMeaning.{meaning_of}
 use Rattle.store_model.proofs.Links.{first_none, when_none}

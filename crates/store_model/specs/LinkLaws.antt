@@ -1,6 +1,6 @@
 -- Laws of lists, of entries in the order of their keys, and of the links of a row.
-use Rattle.std.proofs.Common.{◌≡◌, ℕ, zero, suc, ◌+◌, ◌<◌, List, [], ◌∷◌, Bool, true, false, refl, sym, ap, subst, ◌∙◌, Some, None, length, get_or, inl, inr, arith}
-use Rattle.std.specs.Prelude.{T, ◌||◌, ◌&&◌, ◌⊎◌, cond, map}
+use Rattle.std.proofs.Common.{◌≡◌, ℕ, zero, suc, ◌+◌, ◌<◌, List, [], ◌∷◌, Bool, true, false, refl, sym, ap, subst, ◌∙◌, Some, length, get_or, inl, inr, arith}
+use Rattle.std.specs.Prelude.{T, ◌&&◌, ◌⊎◌, cond, map}
 use Rattle.std.specs.Option.{option_map_or}
 use Rattle.std.specs.declared.cmp.Ordering.{Ordering}
 use Rattle.std.specs.declared.cmp.Ordering.TheVariants.{Less, Equal, Greater}
