@@ -1,8 +1,7 @@
 -- A section of fields at the front of a buffer.
-use Rattle.std.proofs.Common.{◌≡◌, ℕ, ◌+◌, ◌*◌, ◌<◌, ◌≤◌, List, [], ◌∷◌, ◌++◌, length, take, drop, ap, subst, arith, append-nil, length-append, length-take, All}
+use Rattle.std.proofs.Common.{◌≡◌, ℕ, ◌*◌, ◌≤◌, List, [], ◌++◌, length, take, drop, ap, subst, arith, append-nil, length-append, length-take}
 use Rattle.std.specs.List.{flat_map}
-use Rattle.std.proofs.lemmas.List.Elements.{All-head, All-tail}
-use Rattle.httparse.specs.Grammar.{Field, IsField, LineEnd, crlf, lf, print_end, print_field, print_section, HasNoSection, NeverHasSection}
+use Rattle.httparse.specs.Grammar.{Field, LineEnd, lf, print_end, print_field, print_section, HasNoSection, NeverHasSection}
 use Rattle.httparse.specs.Spans.{SectionExceeds, IsSectionAt}
 use Rattle.httparse.specs.declared.spans.HeaderSpan.{HeaderSpan}
 use Rattle.http_model.specs.Bodies.{trailer_limit, TakesTrailers}

@@ -1,5 +1,5 @@
 -- To-many linkages, by the items of their array.
-use Rattle.std.specs.Prelude.{◌≡◌, ℕ, ◌^◌, nat_le, List, map, length, Result}
+use Rattle.std.specs.Prelude.{ℕ, ◌^◌, nat_le, List, map, length, Result}
 use Rattle.std.specs.List.{enumerate_from}
 use Rattle.serde_json.specs.Data.{Data}
 use Rattle.resource_schema.specs.declared.schema.Schema.{Schema}

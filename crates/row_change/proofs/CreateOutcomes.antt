@@ -1,6 +1,6 @@
 -- From what was judged to the outcome of an operation, and from what was looked at to its reach.
 use Rattle.std.proofs.Common.{◌≡◌, ℕ, ◌≤◌, List, [], ◌∷◌, Bool, true, false, refl, sym, ap, subst, ◌∙◌, Option, Some, None, Result, Ok, Err, length, rules}
-use Rattle.std.specs.Prelude.{IsTrue, ◌||◌, ◌+◌, is_some, if◌then◌else◌, slice_set, get_or, codes}
+use Rattle.std.specs.Prelude.{IsTrue, ◌+◌, is_some, if◌then◌else◌, slice_set, get_or, codes}
 use Rattle.std.proofs.lemmas.List.{length-map}
 use Rattle.std.proofs.lemmas.Bool.{or_left, or_right}
 use Rattle.ident_rules.specs.declared.key.Key.{Key}

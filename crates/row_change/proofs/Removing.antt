@@ -1,6 +1,6 @@
 -- What the steps of a removal tell of it.
 use Rattle.std.proofs.Common.{◌≡◌, ℕ, List, [], ◌∷◌, Bool, true, false, refl, sym, ap, subst, ◌∙◌, Some, None, Option, Result, Ok, Err}
-use Rattle.std.specs.Prelude.{◌||◌, IsTrue, IsErr, IsErrAnd}
+use Rattle.std.specs.Prelude.{IsTrue, IsErr, IsErrAnd}
 use Rattle.std.specs.Option.{option_map_or, option_and_then}
 use Rattle.std.proofs.lemmas.Bool.{or_left, or_right}
 use Rattle.ident_rules.specs.declared.key.Key.{Key}

@@ -7,7 +7,7 @@ use Rattle.std.proofs.lemmas.Bool.{ltb-false}
 use Rattle.std.proofs.lemmas.List.{get_or_past}
 use Rattle.std.proofs.lemmas.Slice.Zip.{AllZip-long}
 use Rattle.ident_rules.specs.declared.key.Key.{Key}
-use Rattle.ident_rules.specs.Key.{same_key, key_cmp_total, key_cmp-IsAntisymmetric, key_is}
+use Rattle.ident_rules.specs.Key.{same_key, key_cmp_total, key_is}
 use Rattle.resource_schema.specs.declared.schema.Schema.{Schema}
 use Rattle.resource_schema.specs.Kinds.{relationships_of, target_of}
 use Rattle.world_cells.specs.declared.rows.Link.{Link}

@@ -3,7 +3,7 @@ use Rattle.std.proofs.Common.{◌≡◌, List, [], ◌∷◌, map, refl, sym, su
 use Rattle.std.specs.Prelude.{◌&&◌, OnOk, OnErr}
 use Rattle.std.specs.declared.cmp.Ordering.{Ordering}
 use Rattle.std.specs.declared.cmp.Ordering.TheVariants.{Less, Equal, Greater}
-use Rattle.std.specs.Ordering.{is_lt, is_eq}
+use Rattle.std.specs.Ordering.{is_lt}
 use Rattle.std.specs.FinMap.Entries.{is_sorted, is_sorted-put}
 use Rattle.ident_rules.specs.declared.memory.NoMemory.{NoMemory}
 use Rattle.world_cells.specs.declared.keys.CellKey.{CellKey}

@@ -1,4 +1,4 @@
-use Rattle.std.proofs.Common.{◌≡◌, ap, ◌∙◌, map, Some}
+use Rattle.std.proofs.Common.{ap, ◌∙◌, map, Some}
 use Rattle.serde_json.specs.View.{view, items_of}
 use Rattle.resource_reader.proofs.Items.{to_many-items}
 use Rattle.resource_reader.proofs.linkages.read_to_many.Goals as goal
