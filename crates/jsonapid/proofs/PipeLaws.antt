@@ -1,13 +1,10 @@
 -- A connection makes at most one entry for each of at most 1,000,000 messages, so its store is never worn.
-use Rattle.std.proofs.Common.{◌≡◌, ◌≢◌, ◌⊎◌, ℕ, ◌+◌, ◌<◌, ◌≤◌, Bool, true, false, List, [], ◌∷◌, ◌++◌, length, refl, sym, ap, ◌∙◌, subst, inl, inr, arith, length-append, eqb, eq-eqb, Some, None, Option}
-use Rattle.std.proofs.lemmas.Bool.{false≢true}
+use Rattle.std.proofs.Common.{◌≡◌, ◌⊎◌, ℕ, ◌+◌, ◌<◌, ◌≤◌, Bool, true, false, List, [], ◌∷◌, ◌++◌, length, refl, ap, ◌∙◌, subst, inl, inr, arith, length-append, Some, None, Option}
 use Rattle.std.proofs.lemmas.List.Elements.{All-head, All-tail}
-use Rattle.std.specs.Prelude.{◌||◌, IfSome, IsTrue, IsFalse}
-use Rattle.http_messages.specs.declared.messages.Message.{Message}
+use Rattle.std.specs.Prelude.{IfSome, IsTrue, IsFalse}
 use Rattle.http_messages.specs.declared.messages.Reply.{Reply}
 use Rattle.http_messages.specs.declared.ends.SessionEnd.{SessionEnd}
 use Rattle.http_messages.specs.declared.ends.SessionEnd.TheVariants.{Closed, Refused, CutShort, ReadFault, WriteFault, NoMemory, Worn}
-use Rattle.http_model.specs.Framings.{closes}
 use Rattle.http_model.specs.MessageLaws.{few_more}
 use Rattle.http_model.specs.Exchanges.{Plans, Planned, planned_reply, planned_task, Exchange, IsAnswer, Runs, closes_by, StaysOpen, LastCloses, entries_of}
 use Rattle.http_model.specs.Served.{Served, EndIs, CanBeCut, in_reply, in_refusal, in_last}
