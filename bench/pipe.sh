@@ -1,5 +1,6 @@
 #!/bin/sh
-# What 2,000 pipelined requests through `jsonapid pipe` cost: seconds, and instructions a request by callgrind.
+# What pipelined requests through `jsonapid pipe` cost: microseconds a request over 200,000 of them, and instructions a request by
+# callgrind over 2,000. Callgrind counts an instruction for each byte that is cleared, so the microseconds tell more.
 # Usage: bench/pipe.sh [PROGRAM]. It builds nothing: run the program once by `rt run` in crates/jsonapid first.
 set -eu
 cd "$(dirname "$0")/.."
@@ -22,19 +23,22 @@ others() {
     awk -v count="$1" 'BEGIN { for (i = 0; i < count; i++) printf "GET /notes HTTP/1.1\r\nHost: h\r\n\r\n" }'
 }
 
+# What the messages of one file cost, and of another with a hundred times as many.
 measure() {
-    name=$1
-    file=$2
-    seconds=$( { /usr/bin/time -f %e "$program" pipe <"$file" >"$work/out"; } 2>&1 | tail -1)
-    total=$(valgrind --tool=callgrind --callgrind-out-file="$work/calls" "$program" pipe <"$file" 2>&1 >/dev/null | awk '/Collected/ { print $4 }')
-    printf '%-34s %8s s %14s instructions a request\n' "$name" "$seconds" "$((total / 2000))"
+    seconds=$( { /usr/bin/time -f %U "$program" pipe <"$3" >"$work/out"; } 2>&1 | tail -1)
+    total=$(valgrind --tool=callgrind --callgrind-out-file="$work/calls" "$program" pipe <"$2" 2>&1 >/dev/null | awk '/Collected/ { print $4 }')
+    printf '%-36s %6s us %8s instructions a request\n' "$1" "$(awk -v s="$seconds" 'BEGIN { printf "%.1f", s * 5 }')" "$((total / 2000))"
 }
 
-{ posts 1000; gets 1000; } >"$work/mixed"
-{ posts 1; gets 1999; } >"$work/gets"
-posts 2000 >"$work/posts"
-others 2000 >"$work/others"
-measure '1,000 POST, then 1,000 GET' "$work/mixed"
-measure '1 POST, then 1,999 GET' "$work/gets"
-measure '2,000 POST' "$work/posts"
-measure '2,000 that are told not built' "$work/others"
+{ posts 1; gets 1999; } >"$work/few"
+{ posts 1; gets 199999; } >"$work/many"
+measure '1 POST, then GET of it' "$work/few" "$work/many"
+{ posts 1000; gets 1000; } >"$work/few"
+{ posts 100000; gets 100000; } >"$work/many"
+measure 'half POST, then half GET' "$work/few" "$work/many"
+posts 2000 >"$work/few"
+posts 200000 >"$work/many"
+measure 'POST' "$work/few" "$work/many"
+others 2000 >"$work/few"
+others 200000 >"$work/many"
+measure 'messages that are told not built' "$work/few" "$work/many"
