@@ -3,6 +3,8 @@ mod Blog
 mod TargetExamples
 mod NegotiationExamples
 mod QueryExamples
+mod CursorExamples
+mod LinkExamples
 mod SchemaExamples
 mod DocumentExamples
 mod ListExamples
