@@ -8,6 +8,7 @@ mod LinkExamples
 mod SchemaExamples
 mod DocumentExamples
 mod ListExamples
+mod OperationExamples
 mod PlanExamples
 mod LimitExamples
 pub mod Inversions
