@@ -293,3 +293,12 @@ remove_many_without_data = refl
 remove_wrong_member : operations (codes "[{\"op\":\"remove\",\"href\":\"/articles/1/relationships/comments\",\"data\":[{\"type\":\"comments\",\"id\":\"7\"},{\"type\":\"people\",\"id\":\"7\"}]}]") ≡ refused code.WrongTarget (codes "/atomic:operations/0/data/1/type")
 unfolding requests_on_literals
 remove_wrong_member = refl
+
+-- the first of the members that may not be there, in the order results, data, included
+results_and_data : document (codes "{\"data\":1,\"atomic:results\":[],\"atomic:operations\":1}") ≡ refused code.BadDocument (codes "/atomic:results")
+unfolding requests_on_literals
+results_and_data = refl
+
+data_and_included : document (codes "{\"included\":[],\"data\":1,\"atomic:operations\":1}") ≡ refused code.BadDocument (codes "/data")
+unfolding requests_on_literals
+data_and_included = refl
