@@ -1,13 +1,19 @@
 -- Limits, worked.
-use Rattle.std.specs.Prelude.{◌≡◌, ℕ, List, [], ◌∷◌, map, ◌++◌, replicate, true, false, None, Err, codes, refl, is_some}
+use Rattle.std.specs.Prelude.{◌≡◌, ℕ, List, [], ◌∷◌, map, ◌++◌, replicate, true, false, None, Err, codes, refl, is_some, nat_le, length}
 use Rattle.serde_json.specs.Data.{Data, null, string, array, object, member, no_members}
 use Rattle.serde_json.specs.View.{items_of}
 use Rattle.resource_schema.specs.declared.schema.Schema.{Schema}
 use Rattle.resource_schema.specs.declared.values.Form.TheVariants as form
 use Rattle.error_objects.specs.declared.codes.Code.TheVariants as code
 use Rattle.error_objects.specs.Refusals.{at_pointer}
+use Rattle.std.specs.List.{enumerate_from}
+use Rattle.std.proofs.Common.{ap, ◌∙◌}
+use Rattle.request_model.specs.Words.{all_ok}
+use Rattle.request_model.specs.Results.{◌>>◌, err_if}
+use Rattle.request_model.specs.ListLaws.{items_list-items_of}
+use Rattle.request_model.specs.Documents.{bad_document, indexed, to_many}
 use Rattle.request_model.specs.Values.{value_from}
-use Rattle.json_forms.specs.Json.{json_of}
+use Rattle.json_forms.specs.Json.{json_of, items_list}
 use Rattle.request_model.specs.Queries.{path_of, paths_of, sort_keys_of}
 use Rattle.request_model.specs.OperationLists.{operations_of}
 use Rattle.request_model.proofs.OnLiterals.{requests_on_literals}
@@ -74,3 +80,9 @@ nine_names = refl
 no_name_in_path : path_of wide 0 (codes "up..up") ≡ None
 unfolding requests_on_literals
 no_name_in_path = refl
+
+-- an array of 2 ^ 32 members or more
+many_members : (ds : List Data) → nat_le 4294967296 (length ds) ≡ true → to_many blog 1 (codes "/data") (array (items_of ds)) ≡ Err (at_pointer code.BadDocument (codes "/data"))
+many_members ds over =
+    ap (λ b. ◌>>◌ (err_if b (bad_document (codes "/data"))) (all_ok (map (indexed blog 1 (codes "/data")) (enumerate_from 0 (items_list (items_of ds))))))
+        (ap (λ l. nat_le 4294967296 (length l)) (items_list-items_of ds) ∙ over)
