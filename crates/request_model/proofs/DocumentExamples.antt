@@ -13,7 +13,7 @@ use Rattle.error_objects.specs.Refusals.{at_pointer}
 use Rattle.serde_json.specs.Data.{string}
 use Rattle.task_forms.specs.declared.operations.Member.{Member}
 use Rattle.json_forms.specs.Json.{json_of}
-use Rattle.request_model.specs.Documents.{create_of, update_of, linkage, local_id}
+use Rattle.request_model.specs.Documents.{create_of, update_of, linkage, local_id, is_plain}
 use Rattle.request_model.proofs.OnLiterals.{requests_on_literals}
 use Rattle.request_model.proofs.Blog.{blog}
 
@@ -368,3 +368,8 @@ unknown_field_of_update = refl
 unknown_link_of_update : update_ann (codes "{\"type\":\"people\",\"id\":\"ann\",\"relationships\":{\"author\":{\"data\":null}}}") ≡ refused code.UnknownField (codes "/data/relationships/author")
 unfolding requests_on_literals
 unknown_link_of_update = refl
+
+-- what data names is not named by the path
+data_is_not_plain : is_plain stands.Data ≡ false
+unfolding requests_on_literals
+data_is_not_plain = refl

@@ -1,5 +1,5 @@
 -- Plans, worked.
-use Rattle.std.specs.Prelude.{◌≡◌, ℕ, List, [], ◌∷◌, Some, None, Err, codes, refl}
+use Rattle.std.specs.Prelude.{◌≡◌, ℕ, List, [], ◌∷◌, true, false, Some, None, Err, codes, refl}
 use Rattle.http_messages.specs.declared.messages.Message.{Message}
 use Rattle.http_messages.specs.declared.messages.Field.{Field}
 use Rattle.resource_schema.specs.declared.values.AttrValue.TheVariants as value
@@ -18,7 +18,7 @@ use Rattle.error_objects.specs.declared.codes.Code.TheVariants as code
 use Rattle.error_objects.specs.Refusals.{refusal}
 use Rattle.task_forms.specs.Queries.{no_query}
 use Rattle.resource_schema.specs.Kinds.{notes}
-use Rattle.request_model.specs.Plans.{planned, change_of}
+use Rattle.request_model.specs.Plans.{planned, change_of, is_list}
 use Rattle.request_model.proofs.OnLiterals.{requests_on_literals}
 use Rattle.request_model.proofs.Blog.{blog}
 
@@ -223,3 +223,16 @@ no_json_of_list = refl
 change_of_related : change_of blog (codes "PATCH") [] (target.Related (record { kind = 0; id = codes "1" }) 1) ≡ Err (refusal code.MethodNotAllowed)
 unfolding requests_on_literals
 change_of_related = refl
+
+-- only `/operations` is a list
+operations_are_list : is_list target.Operations ≡ true
+unfolding requests_on_literals
+operations_are_list = refl
+
+collection_is_no_list : is_list (target.Collection 0) ≡ false
+unfolding requests_on_literals
+collection_is_no_list = refl
+
+linkage_is_no_list : is_list (target.Linkage (record { kind = 0; id = codes "1" }) 1) ≡ false
+unfolding requests_on_literals
+linkage_is_no_list = refl
