@@ -20,6 +20,7 @@ use Rattle.json.specs.Print.{escape_byte}
 use Rattle.http_model.specs.Refusals.{refusal_of}
 use Rattle.http_model.specs.Hopeless.{target_so_far, start_of, after_lines}
 use Rattle.http_model.specs.Blanks.{empty_lines}
+use Rattle.http_model.specs.Targets.{has_visible_target}
 use Rattle.http_model.specs.Heads.{is_visible, head_limit, field_limit}
 use Rattle.http_model.specs.Requests.{LastCloses}
 
@@ -537,3 +538,20 @@ cut_behind_last = record {
       (λ fields last rest reads. nothing_more (flat_map print_field fields) last rest reads.1)
       (codes "\n", [], lf, (All-nil IsField, refl));
 }
+
+-- ---- targets by their test: visible ASCII up to the next space
+
+target_in_line : has_visible_target (codes "\r\n\nGET /art HTTP/1.1") ≡ true
+target_in_line = refl
+
+no_target_yet : has_visible_target (codes "GE" ++ 200 ∷ []) ≡ true
+no_target_yet = refl
+
+delete_in_target : has_visible_target (codes "GET /" ++ 127 ∷ codes "a ") ≡ false
+delete_in_target = refl
+
+other_byte_in_target : has_visible_target (codes "\nGET /a" ++ 200 ∷ []) ≡ false
+other_byte_in_target = refl
+
+byte_behind_target : has_visible_target (codes "GET / " ++ 200 ∷ []) ≡ true
+byte_behind_target = refl
