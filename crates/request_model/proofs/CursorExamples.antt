@@ -1,5 +1,5 @@
 -- Cursors, worked.
-use Rattle.std.specs.Prelude.{◌≡◌, ℕ, Bool, List, [], ◌∷◌, true, false, Some, None, codes, refl, negsuc}
+use Rattle.std.specs.Prelude.{◌≡◌, Bool, List, [], ◌∷◌, true, false, Some, None, codes, refl, negsuc}
 use Rattle.resource_schema.specs.declared.values.Form.{Form}
 use Rattle.resource_schema.specs.declared.values.Form.TheVariants as form
 use Rattle.resource_schema.specs.declared.values.AttrValue.TheVariants as value

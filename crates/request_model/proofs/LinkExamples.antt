@@ -1,5 +1,5 @@
 -- Links, worked.
-use Rattle.std.specs.Prelude.{◌≡◌, ℕ, List, [], ◌∷◌, codes, refl}
+use Rattle.std.specs.Prelude.{◌≡◌, [], ◌∷◌, codes, refl}
 use Rattle.request_model.specs.Links.{collection_link, resource_link, related_link, relationship_link, with_query}
 use Rattle.request_model.proofs.OnLiterals.{requests_on_literals}
 
