@@ -85,4 +85,4 @@ no_name_in_path = refl
 many_members : (ds : List Data) → nat_le 4294967296 (length ds) ≡ true → to_many blog 1 (codes "/data") (array (items_of ds)) ≡ Err (at_pointer code.BadDocument (codes "/data"))
 many_members ds over =
     ap (λ b. ◌>>◌ (err_if b (bad_document (codes "/data"))) (all_ok (map (indexed blog 1 (codes "/data")) (enumerate_from 0 (items_list (items_of ds))))))
-        (ap (λ l. nat_le 4294967296 (length l)) (items_list-items_of ds) ∙ over)
+    (ap (λ l. nat_le 4294967296 (length l)) (items_list-items_of ds) ∙ over)
