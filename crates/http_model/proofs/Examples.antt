@@ -1,12 +1,12 @@
 -- Inputs with their answers, computed by the definitions.
-use Rattle.std.proofs.Common.{◌≡◌, ℕ, true, false, List, [], ◌∷◌, length, refl, Ok, Err}
-use Rattle.std.specs.Prelude.{codes, None}
+use Rattle.std.proofs.Common.{◌≡◌, ℕ, true, false, List, [], ◌∷◌, length, refl, Ok, Err, inl, inr}
+use Rattle.std.specs.Prelude.{codes, None, ◌++◌}
 use Rattle.std.specs.Fmt.{digits}
 use Rattle.std.proofs.Common.{◌<◌, ◌≤◌, arith}
-use Rattle.std.specs.List.{list_all}
+use Rattle.std.specs.List.{list_all, flat_map}
 use Rattle.std.proofs.lemmas.List.Elements.{All-nil, All-cons}
 use Rattle.std.proofs.lemmas.List.Sums.{AllPass-from_list_all}
-use Rattle.httparse.specs.Grammar.{trim_ows, ChunkLine, IsChunkLine, print_chunk_line, is_ows, Field, IsField, crlf, lf, is_token_byte, is_value_byte}
+use Rattle.httparse.specs.Grammar.{trim_ows, LineEnd, print_end, print_field, ChunkLine, IsChunkLine, print_chunk_line, is_ows, Field, IsField, crlf, lf, is_token_byte, is_value_byte}
 use Rattle.std.specs.Char.{is_ascii_hexdigit}
 use Rattle.http_messages.specs.declared.messages.Message.{Message}
 use Rattle.http_messages.specs.declared.messages.Field.{Field as MessageField}
@@ -14,11 +14,15 @@ use Rattle.http_messages.specs.ReplyText.{reason, reply_text, interim_text}
 use Rattle.http_messages.specs.declared.framings.Framing.TheVariants.{Empty, Length, Chunked}
 use Rattle.http_messages.specs.declared.framings.HeadFault.TheVariants.{Host, TwoFramings, BadCoding, UnknownCoding, BadLength, LongBody, Expectation}
 use Rattle.http_model.specs.Framings.{comma_parts, framing_of, expects_continue, closes, interim_of}
-use Rattle.http_model.specs.Bodies.{Chunk, IsChunk, ReadsChunked, bad_end, IsBadChunked, IsLargeChunked}
+use Rattle.http_model.specs.Bodies.{chunk_line_limit, trailer_limit, Chunk, IsChunk, ReadsChunked, bad_end, IsBadChunked, IsLargeChunked, IsCutChunked, cut_end, cut_trailers}
 use Rattle.http_messages.specs.declared.framings.RefusedRest.TheVariants.{Hopeless, TooLarge, TooMany, Head, BadChunk, LargeBody}
 use Rattle.json.specs.Print.{escape_byte}
 use Rattle.http_model.specs.Refusals.{refusal_of}
-use Rattle.http_model.specs.Hopeless.{target_so_far, start_of}
+use Rattle.http_model.specs.Hopeless.{target_so_far, start_of, after_lines}
+use Rattle.http_model.specs.Blanks.{empty_lines}
+use Rattle.http_model.specs.Targets.{has_visible_target}
+use Rattle.http_model.specs.Heads.{is_visible, head_limit, field_limit}
+use Rattle.http_model.specs.Requests.{LastCloses}
 
 abbrev field : List ℕ → List ℕ → MessageField
 field name value = record { name = name; value = value }
@@ -404,3 +408,150 @@ too_much = record {
   takes = record { reads = (is_plain_line (codes "100001") (omega arith) (omega arith) refl, refl); fits = omega arith };
   over = omega arith;
 }
+
+-- ---- empty lines (RFC 9112, section 2.2)
+
+no_line : empty_lines false [] ≡ true
+no_line = refl
+
+whole_lines : empty_lines false (codes "\r\n\n\r\n") ≡ true
+whole_lines = refl
+
+open_line : empty_lines false (codes "\n\r") ≡ false
+open_line = refl
+
+-- the CR stands before the bytes
+ended_line : empty_lines true (codes "\n") ≡ true
+ended_line = refl
+
+cr_twice : empty_lines false (codes "\r\r\n") ≡ false
+cr_twice = refl
+
+-- a vertical tab and the byte behind CR
+no_line_end : empty_lines false (11 ∷ []) ≡ false
+no_line_end = refl
+
+no_carriage_return : empty_lines false (14 ∷ 10 ∷ []) ≡ false
+no_carriage_return = refl
+
+behind_line : empty_lines false (codes "\r\nG") ≡ false
+behind_line = refl
+
+only_lines : after_lines (codes "\r\n\n") ≡ []
+only_lines = refl
+
+lone_lf : after_lines (codes "\n") ≡ []
+lone_lf = refl
+
+lines_and_cr : after_lines (codes "\n\r") ≡ codes "\r"
+lines_and_cr = refl
+
+lines_and_word : after_lines (codes "\r\n\nG\r\n") ≡ codes "G\r\n"
+lines_and_word = refl
+
+vertical_tab : after_lines (11 ∷ []) ≡ 11 ∷ []
+vertical_tab = refl
+
+-- ---- visible ASCII is 33 to 126
+
+space_is_not : is_visible 32 ≡ false
+space_is_not = refl
+
+first_visible : is_visible 33 ≡ true
+first_visible = refl
+
+last_visible : is_visible 126 ≡ true
+last_visible = refl
+
+delete_is_not : is_visible 127 ≡ false
+delete_is_not = refl
+
+-- ---- the limits
+
+greatest_head : head_limit ≡ 16384
+greatest_head = refl
+
+most_fields : field_limit ≡ 64
+most_fields = refl
+
+greatest_line : chunk_line_limit ≡ 1024
+greatest_line = refl
+
+greatest_trailers : trailer_limit ≡ 16384
+greatest_trailers = refl
+
+-- ---- the 1,000,000th message is the last
+
+abbrev plain_post : Message
+plain_post = post 1 (the_host ∷ [])
+
+never : false ≡ true → ⊥
+never e = cc
+
+last_one_closes : LastCloses 999999 (plain_post ∷ [])
+unfolding closes comma_parts trim_ows
+last_one_closes = inl (refl, refl)
+
+second_closes : LastCloses 999998 (plain_post ∷ plain_post ∷ [])
+unfolding closes comma_parts trim_ows
+second_closes = inr (inl (refl, refl))
+
+first_does_not : LastCloses 999998 (plain_post ∷ []) → ⊥
+unfolding closes comma_parts trim_ows
+first_does_not (inl (e, t)) = never t
+first_does_not (inr later) = later
+
+-- a message that closes, and another behind it
+not_the_last : LastCloses 0 (post 0 [] ∷ plain_post ∷ []) → ⊥
+unfolding closes comma_parts trim_ows
+not_the_last (inl (e, t)) = cc
+not_the_last (inr (inl (e, t))) = never t
+not_the_last (inr (inr later)) = later
+
+-- ---- chunks that are cut
+
+-- a chunk of one byte, whose end is cut
+cut_behind_byte : IsCutChunked (codes "1\r\na\r")
+unfolding print_chunk_line
+cut_behind_byte = record {
+  chunks = [];
+  left = codes "1\r\na\r";
+  so_far = record { each = All-nil IsChunk; within = omega arith; text = refl };
+  piece = cut_end (plain_line (codes "1")) (codes "a\r") (codes "a") (codes "\r")
+      (record { reads = (is_plain_line (codes "1") (omega arith) (omega arith) refl, refl); fits = omega arith }) (omega arith) (omega arith) refl refl (inr refl);
+}
+
+nothing_more : (xs : List ℕ) (last : LineEnd) (rest : List ℕ) → [] ≡ (xs ++ print_end last) ++ rest → ⊥
+nothing_more [] crlf rest e = cc
+nothing_more [] lf rest e = cc
+nothing_more (x ∷ xs) last rest e = cc
+
+-- no trailer section has come behind the last chunk
+cut_behind_last : IsCutChunked (codes "0\r\n")
+unfolding print_chunk_line
+cut_behind_last = record {
+  chunks = [];
+  left = codes "0\r\n";
+  so_far = record { each = All-nil IsChunk; within = omega arith; text = refl };
+  piece = cut_trailers (plain_line (codes "0")) []
+      (record { reads = (is_plain_line (codes "0") (omega arith) (omega arith) refl, refl); fits = omega arith }) refl (omega arith)
+      (λ fields last rest reads. nothing_more (flat_map print_field fields) last rest reads.1)
+      (codes "\n", [], lf, (All-nil IsField, refl));
+}
+
+-- ---- targets by their test: visible ASCII up to the next space
+
+target_in_line : has_visible_target (codes "\r\n\nGET /art HTTP/1.1") ≡ true
+target_in_line = refl
+
+no_target_yet : has_visible_target (codes "GE" ++ 200 ∷ []) ≡ true
+no_target_yet = refl
+
+delete_in_target : has_visible_target (codes "GET /" ++ 127 ∷ codes "a ") ≡ false
+delete_in_target = refl
+
+other_byte_in_target : has_visible_target (codes "\nGET /a" ++ 200 ∷ []) ≡ false
+other_byte_in_target = refl
+
+byte_behind_target : has_visible_target (codes "GET / " ++ 200 ∷ []) ≡ true
+byte_behind_target = refl

@@ -3,9 +3,12 @@ mod Blog
 mod TargetExamples
 mod NegotiationExamples
 mod QueryExamples
+mod CursorExamples
+mod LinkExamples
 mod SchemaExamples
 mod DocumentExamples
 mod ListExamples
+mod OperationExamples
 mod PlanExamples
 mod LimitExamples
 pub mod Inversions

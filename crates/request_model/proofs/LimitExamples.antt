@@ -1,16 +1,23 @@
 -- Limits, worked.
-use Rattle.std.specs.Prelude.{◌≡◌, ℕ, ◌++◌, replicate, true, false, None, Err, codes, refl, is_some}
+use Rattle.std.specs.Prelude.{◌≡◌, ℕ, List, [], ◌∷◌, map, ◌++◌, replicate, true, false, None, Err, codes, refl, is_some, nat_le, length}
 use Rattle.serde_json.specs.Data.{Data, null, string, array, object, member, no_members}
 use Rattle.serde_json.specs.View.{items_of}
+use Rattle.resource_schema.specs.declared.schema.Schema.{Schema}
 use Rattle.resource_schema.specs.declared.values.Form.TheVariants as form
 use Rattle.error_objects.specs.declared.codes.Code.TheVariants as code
 use Rattle.error_objects.specs.Refusals.{at_pointer}
+use Rattle.std.specs.List.{enumerate_from}
+use Rattle.std.proofs.Common.{ap, ◌∙◌}
+use Rattle.request_model.specs.Words.{all_ok}
+use Rattle.request_model.specs.Results.{◌>>◌, err_if}
+use Rattle.request_model.specs.ListLaws.{items_list-items_of}
+use Rattle.request_model.specs.Documents.{bad_document, indexed, to_many}
 use Rattle.request_model.specs.Values.{value_from}
-use Rattle.json_forms.specs.Json.{json_of}
-use Rattle.request_model.specs.Queries.{paths_of, sort_keys_of}
+use Rattle.json_forms.specs.Json.{json_of, items_list}
+use Rattle.request_model.specs.Queries.{path_of, paths_of, sort_keys_of}
 use Rattle.request_model.specs.OperationLists.{operations_of}
 use Rattle.request_model.proofs.OnLiterals.{requests_on_literals}
-use Rattle.request_model.proofs.Blog.{blog}
+use Rattle.request_model.proofs.Blog.{blog, text_attribute}
 
 abbrev list_of : ℕ → Data
 list_of n = object (member (codes "atomic:operations") (array (items_of (replicate n null))) no_members)
@@ -48,3 +55,34 @@ sixteen_paths = refl
 seventeen_paths : paths_of blog 0 (codes "author,author,author,author,author,author,author,author,author,author,author,author,author,author,author,author,author") ≡ None
 unfolding requests_on_literals
 seventeen_paths = refl
+
+-- a type with nine attributes and a relationship to itself
+abbrev wide : Schema
+wide =
+    record { name = codes "t"; client_ids = false; attributes = map (λ b. text_attribute (b ∷ [])) (codes "abcdefghi"); relationships = record { name = codes "up"; many = false; target = 0 } ∷ [] } ∷ []
+
+eight_sort_keys : is_some (sort_keys_of wide 0 (codes "a,b,c,d,e,f,g,-h")) ≡ true
+unfolding requests_on_literals
+eight_sort_keys = refl
+
+nine_sort_keys : sort_keys_of wide 0 (codes "a,b,c,d,e,f,g,h,i") ≡ None
+unfolding requests_on_literals
+nine_sort_keys = refl
+
+eight_names : is_some (path_of wide 0 (codes "up.up.up.up.up.up.up.up")) ≡ true
+unfolding requests_on_literals
+eight_names = refl
+
+nine_names : path_of wide 0 (codes "up.up.up.up.up.up.up.up.up") ≡ None
+unfolding requests_on_literals
+nine_names = refl
+
+no_name_in_path : path_of wide 0 (codes "up..up") ≡ None
+unfolding requests_on_literals
+no_name_in_path = refl
+
+-- an array of 2 ^ 32 members or more
+many_members : (ds : List Data) → nat_le 4294967296 (length ds) ≡ true → to_many blog 1 (codes "/data") (array (items_of ds)) ≡ Err (at_pointer code.BadDocument (codes "/data"))
+many_members ds over =
+    ap (λ b. ◌>>◌ (err_if b (bad_document (codes "/data"))) (all_ok (map (indexed blog 1 (codes "/data")) (enumerate_from 0 (items_list (items_of ds))))))
+    (ap (λ l. nat_le 4294967296 (length l)) (items_list-items_of ds) ∙ over)

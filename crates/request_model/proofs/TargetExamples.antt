@@ -79,3 +79,221 @@ unknown_method = refl
 
 removal_of_links : need_of allow.Many (codes "DELETE") ≡ need.Document
 removal_of_links = refl
+
+-- ---- forms of targets
+
+other_scheme : split_target (codes "ftp://h/x") ≡ None
+unfolding requests_on_literals
+other_scheme = refl
+
+half_scheme : split_target (codes "http:/h/x") ≡ None
+unfolding requests_on_literals
+half_scheme = refl
+
+secure_scheme : split_target (codes "HTTPS://h/notes?a") ≡ Some (codes "/notes", codes "a")
+unfolding requests_on_literals
+secure_scheme = refl
+
+no_target : split_target [] ≡ None
+unfolding requests_on_literals
+no_target = refl
+
+authority_form : split_target (codes "h:80") ≡ None
+unfolding requests_on_literals
+authority_form = refl
+
+without_query : split_target (codes "/notes") ≡ Some (codes "/notes", [])
+unfolding requests_on_literals
+without_query = refl
+
+only_query : split_target (codes "/?a") ≡ Some (codes "/", codes "a")
+unfolding requests_on_literals
+only_query = refl
+
+-- ---- paths that lead nowhere
+
+root : target_of_path blog (codes "/") ≡ None
+unfolding requests_on_literals
+root = refl
+
+empty_path : target_of_path blog [] ≡ None
+unfolding requests_on_literals
+empty_path = refl
+
+unrooted : target_of_path blog (codes "people") ≡ None
+unfolding requests_on_literals
+unrooted = refl
+
+before_root : target_of_path blog (codes "x/people") ≡ None
+unfolding requests_on_literals
+before_root = refl
+
+end_slash : target_of_path blog (codes "/people/") ≡ None
+unfolding requests_on_literals
+end_slash = refl
+
+two_slashes : target_of_path blog (codes "//people") ≡ None
+unfolding requests_on_literals
+two_slashes = refl
+
+unknown_type : target_of_path blog (codes "/tags") ≡ None
+unfolding requests_on_literals
+unknown_type = refl
+
+type_in_other_case : target_of_path blog (codes "/People") ≡ None
+unfolding requests_on_literals
+type_in_other_case = refl
+
+bad_id : target_of_path blog (codes "/people/a%20b") ≡ None
+unfolding requests_on_literals
+bad_id = refl
+
+attribute_name : target_of_path blog (codes "/articles/1/title") ≡ None
+unfolding requests_on_literals
+attribute_name = refl
+
+no_relationship : target_of_path blog (codes "/articles/1/relationships") ≡ None
+unfolding requests_on_literals
+no_relationship = refl
+
+attribute_linkage : target_of_path blog (codes "/articles/1/relationships/title") ≡ None
+unfolding requests_on_literals
+attribute_linkage = refl
+
+other_word : target_of_path blog (codes "/articles/1/relations/author") ≡ None
+unfolding requests_on_literals
+other_word = refl
+
+too_long : target_of_path blog (codes "/articles/1/relationships/author/x") ≡ None
+unfolding requests_on_literals
+too_long = refl
+
+encoded_operations : target_of_path blog (codes "/%6Fperations") ≡ None
+unfolding requests_on_literals
+encoded_operations = refl
+
+below_operations : target_of_path blog (codes "/operations/1") ≡ None
+unfolding requests_on_literals
+below_operations = refl
+
+encoded_relationship : target_of_path blog (codes "/articles/1/relationships/%61uthor") ≡ Some (target.Linkage (record { kind = 0; id = codes "1" }) 0)
+unfolding requests_on_literals
+encoded_relationship = refl
+
+encoded_related : target_of_path blog (codes "/articles/1/%61uthor") ≡ Some (target.Related (record { kind = 0; id = codes "1" }) 0)
+unfolding requests_on_literals
+encoded_related = refl
+
+-- an encoded slash separates nothing
+encoded_slash : target_of_path blog (codes "/articles%2F1") ≡ None
+unfolding requests_on_literals
+encoded_slash = refl
+
+-- ---- methods
+
+of_collection : methods allow.Collection ≡ codes "GET" ∷ codes "HEAD" ∷ codes "POST" ∷ []
+unfolding requests_on_literals
+of_collection = refl
+
+of_resource : methods allow.Resource ≡ codes "GET" ∷ codes "HEAD" ∷ codes "PATCH" ∷ codes "DELETE" ∷ []
+unfolding requests_on_literals
+of_resource = refl
+
+of_related : methods allow.Related ≡ codes "GET" ∷ codes "HEAD" ∷ []
+unfolding requests_on_literals
+of_related = refl
+
+of_one : methods allow.One ≡ codes "GET" ∷ codes "HEAD" ∷ codes "PATCH" ∷ []
+unfolding requests_on_literals
+of_one = refl
+
+of_many : methods allow.Many ≡ codes "GET" ∷ codes "HEAD" ∷ codes "PATCH" ∷ codes "POST" ∷ codes "DELETE" ∷ []
+unfolding requests_on_literals
+of_many = refl
+
+of_operations : methods allow.Operations ≡ codes "POST" ∷ []
+unfolding requests_on_literals
+of_operations = refl
+
+-- methods are matched by their bytes
+method_in_other_case : allows allow.Collection (codes "get") ≡ false
+unfolding requests_on_literals
+method_in_other_case = refl
+
+collection_allows : allow_of blog (target.Collection 0) ≡ allow.Collection
+unfolding requests_on_literals
+collection_allows = refl
+
+resource_allows : allow_of blog (target.Resource (record { kind = 0; id = codes "1" })) ≡ allow.Resource
+unfolding requests_on_literals
+resource_allows = refl
+
+related_allows : allow_of blog (target.Related (record { kind = 0; id = codes "1" }) 1) ≡ allow.Related
+unfolding requests_on_literals
+related_allows = refl
+
+many_allows : allow_of blog (target.Linkage (record { kind = 0; id = codes "1" }) 1) ≡ allow.Many
+unfolding requests_on_literals
+many_allows = refl
+
+operations_allow : allow_of blog target.Operations ≡ allow.Operations
+unfolding requests_on_literals
+operations_allow = refl
+
+-- ---- what needs a body
+
+get_of_collection : need_of allow.Collection (codes "GET") ≡ need.Nothing
+unfolding requests_on_literals
+get_of_collection = refl
+
+head_of_collection : need_of allow.Collection (codes "HEAD") ≡ need.Nothing
+unfolding requests_on_literals
+head_of_collection = refl
+
+post_of_collection : need_of allow.Collection (codes "POST") ≡ need.Document
+unfolding requests_on_literals
+post_of_collection = refl
+
+get_of_resource : need_of allow.Resource (codes "GET") ≡ need.Nothing
+unfolding requests_on_literals
+get_of_resource = refl
+
+patch_of_resource : need_of allow.Resource (codes "PATCH") ≡ need.Document
+unfolding requests_on_literals
+patch_of_resource = refl
+
+delete_of_resource : need_of allow.Resource (codes "DELETE") ≡ need.Nothing
+unfolding requests_on_literals
+delete_of_resource = refl
+
+get_of_related : need_of allow.Related (codes "GET") ≡ need.Nothing
+unfolding requests_on_literals
+get_of_related = refl
+
+head_of_related : need_of allow.Related (codes "HEAD") ≡ need.Nothing
+unfolding requests_on_literals
+head_of_related = refl
+
+get_of_one : need_of allow.One (codes "GET") ≡ need.Nothing
+unfolding requests_on_literals
+get_of_one = refl
+
+patch_of_one : need_of allow.One (codes "PATCH") ≡ need.Document
+unfolding requests_on_literals
+patch_of_one = refl
+
+head_of_many : need_of allow.Many (codes "HEAD") ≡ need.Nothing
+unfolding requests_on_literals
+head_of_many = refl
+
+patch_of_many : need_of allow.Many (codes "PATCH") ≡ need.Document
+unfolding requests_on_literals
+patch_of_many = refl
+
+post_of_many : need_of allow.Many (codes "POST") ≡ need.Document
+unfolding requests_on_literals
+post_of_many = refl
+
+post_of_operations : need_of allow.Operations (codes "POST") ≡ need.Atomic
+unfolding requests_on_literals
+post_of_operations = refl
