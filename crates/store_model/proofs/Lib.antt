@@ -9,6 +9,7 @@ mod Links
 mod Paging
 mod PlainReplies
 mod PlainResources
+mod ReachExamples
 mod Reaching
 mod Rows
 mod Runs
