@@ -6,6 +6,7 @@ mod Keeps
 mod Lawful
 mod LinkChanges
 mod Links
+mod PageExamples
 mod Paging
 mod PlainReplies
 mod PlainResources
