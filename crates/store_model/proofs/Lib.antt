@@ -5,6 +5,7 @@ mod FullLinkage
 mod Keeps
 mod Lawful
 mod LinkChanges
+mod ListExamples
 mod Links
 mod PageExamples
 mod Paging

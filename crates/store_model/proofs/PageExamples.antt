@@ -90,7 +90,7 @@ place_of_row : map (place_of (record { attribute = 2; descending = true } ∷ re
 unfolding digits escape_byte
 place_of_row = refl
 
--- ids by number where nothing else decides
+-- ids by length and then by bytes, where nothing else decides
 ids_decide : (is_lt (place_cmp [] (after_id (codes "9")) (after_id (codes "10"))) ≡ true) × (is_gt (place_cmp [] (after_id (codes "10")) (after_id (codes "9"))) ≡ true) × (is_eq (place_cmp [] (after_id (codes "9")) (after_id (codes "9"))) ≡ true)
 ids_decide = (refl, refl, refl)
 
