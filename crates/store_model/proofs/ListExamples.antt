@@ -1,7 +1,9 @@
 -- Computed examples of operations and of lists of them: the world, the reply, and what each is refused for.
 use Rattle.std.specs.Prelude.{◌≡◌, ℕ, List, [], ◌∷◌, true, false, Some, None, codes, map, pos, Ok, Err}
-use Rattle.std.proofs.Common.{refl}
+use Rattle.std.proofs.Common.{refl, arith}
 use Rattle.std.specs.Fmt.{digits}
+use Rattle.std.specs.List.{IsDistinct}
+use Rattle.resource_schema.specs.declared.kinds.Relationship.{Relationship}
 use Rattle.resource_schema.specs.declared.values.AttrValue.TheVariants as value
 use Rattle.resource_schema.specs.declared.targets.Target.TheVariants as target
 use Rattle.world_cells.specs.declared.rows.Link.{Link}
@@ -207,8 +209,12 @@ blamed = refl
 
 -- ---- links of valid rows
 
-one_link : (IsLinkOf (record { name = codes "author"; many = false; target = 2 }) (One None)) × (¬ IsLinkOf (record { name = codes "author"; many = false; target = 2 }) (One (Some (codes "ann")))) × (IsLinkOf (record { name = codes "author"; many = false; target = 2 }) (Many []))
-one_link = (refl, refl, λ h. cc h.0)
+abbrev one : Relationship
+one = record { name = codes "author"; many = false; target = 2 }
 
-no_one_link : ¬ IsLinkOf (record { name = codes "comments"; many = true; target = 1 }) (One None)
-no_one_link h = cc h
+abbrev many : Relationship
+many = record { name = codes "comments"; many = true; target = 1 }
+
+links_by_relationship : IsLinkOf one (One None) × IsLinkOf one (One (Some (codes "ann"))) × (¬ IsLinkOf one (Many [])) × IsLinkOf many (Many []) × (¬ IsLinkOf many (One None))
+unfolding IsDistinct
+links_by_relationship = (refl, refl, λ h. cc h.0, (refl, tt, omega arith), λ h. cc h)
