@@ -18,4 +18,5 @@ mod Runs
 mod ShownLinks
 mod Sources
 mod Valid
+mod ValidExamples
 mod WorldRows
