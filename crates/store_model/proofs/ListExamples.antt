@@ -1,5 +1,5 @@
 -- Computed examples of operations and of lists of them: the world, the reply, and what each is refused for.
-use Rattle.std.specs.Prelude.{◌≡◌, ℕ, List, [], ◌∷◌, true, false, Some, None, codes, map, pos, Ok, Err}
+use Rattle.std.specs.Prelude.{◌≡◌, ℕ, List, [], ◌∷◌, true, false, Some, None, codes, map, pos, Err}
 use Rattle.std.proofs.Common.{refl, arith}
 use Rattle.std.specs.Fmt.{digits}
 use Rattle.std.specs.List.{IsDistinct}
@@ -18,7 +18,6 @@ use Rattle.task_forms.specs.declared.tasks.ReplyForm.TheVariants as reply_form
 use Rattle.task_forms.specs.declared.tasks.Task.TheVariants as task
 use Rattle.error_objects.specs.declared.codes.Code.TheVariants as code
 use Rattle.error_objects.specs.declared.refusals.Blame.TheVariants as blame
-use Rattle.http_messages.specs.declared.messages.Content.{Content}
 use Rattle.http_messages.specs.declared.messages.Content.TheVariants as content
 use Rattle.http_messages.specs.declared.messages.Allow.TheVariants as allow
 use Rattle.json.specs.Print.{escape_byte}
@@ -27,7 +26,7 @@ use Rattle.store_model.specs.Run.{run, blame_under}
 use Rattle.store_model.specs.Answer.{answer, effect}
 use Rattle.store_model.specs.Pages.{rows_of}
 use Rattle.store_model.proofs.Examples.{blog, no_cursors}
-use Rattle.store_model.proofs.Rows.{key_at, named_by, member_of, one_member_of, person, article, node, blog_with_people, by_ann, with_comments, nodes, looped, list_of, with_lid, refused_with}
+use Rattle.store_model.proofs.Rows.{key_at, named_by, member_of, one_member_of, person, article, blog_with_people, by_ann, with_comments, nodes, looped, list_of, with_lid, refused_with}
 
 abbrev in_ref : Who → Who
 in_ref who = record who { place = stands.Ref }

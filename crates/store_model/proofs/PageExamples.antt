@@ -7,25 +7,20 @@ use Rattle.ident_rules.specs.declared.key.Key.{Key}
 use Rattle.resource_schema.specs.declared.values.AttrValue.{AttrValue}
 use Rattle.resource_schema.specs.declared.values.AttrValue.TheVariants as value
 use Rattle.resource_schema.specs.declared.values.Place.{Place}
-use Rattle.resource_schema.specs.declared.targets.Target.{Target}
 use Rattle.resource_schema.specs.declared.targets.Target.TheVariants as target
-use Rattle.world_cells.specs.declared.rows.Row.{Row}
 use Rattle.world_cells.specs.World.{World, empty_world}
-use Rattle.task_forms.specs.declared.operations.Operation.{Operation}
 use Rattle.task_forms.specs.declared.operations.Operation.TheVariants.{Create}
 use Rattle.task_forms.specs.declared.queries.Page.{Page}
-use Rattle.task_forms.specs.declared.queries.Path.{Path}
 use Rattle.task_forms.specs.declared.queries.SortKey.{SortKey}
 use Rattle.task_forms.specs.declared.tasks.Task.TheVariants as task
 use Rattle.json.specs.Print.{escape_byte}
 use Rattle.form_urlencoded.proofs.OnLiterals.{form_urlencoded_on_literals}
 use Rattle.base64.proofs.OnLiterals.{base64_on_literals}
-use Rattle.resource_schema.specs.Kinds.{notes}
 use Rattle.store_model.specs.Answer.{answer, effect}
 use Rattle.store_model.specs.Included.{included}
 use Rattle.store_model.specs.Pages.{Selected, value_cmp, place_cmp, place_of, page_of, rows_of, rows_at}
-use Rattle.store_model.proofs.Examples.{blog, no_cursors, three_notes}
-use Rattle.store_model.proofs.Rows.{key_at, one_member_of, member_of, path_of, blog_with_people, drafts, titled, by_attribute, ids_of_rows, list_of, after_id, nodes}
+use Rattle.store_model.proofs.Examples.{blog, no_cursors}
+use Rattle.store_model.proofs.Rows.{key_at, one_member_of, member_of, path_of, blog_with_people, titled, by_attribute, ids_of_rows, list_of, after_id, nodes}
 
 -- ---- the order of values
 

@@ -1,8 +1,6 @@
 -- Worlds that are not valid, each for one rule.
-use Rattle.std.specs.Prelude.{◌≡◌, ◌<◌, ◌≤◌, ℕ, List, [], ◌∷◌, Some, None, codes, pos}
+use Rattle.std.specs.Prelude.{◌<◌, ◌≤◌, ℕ, List, [], ◌∷◌, Some, None, codes}
 use Rattle.std.proofs.Common.{refl, arith, ap}
-use Rattle.ident_rules.specs.declared.key.Key.{Key}
-use Rattle.resource_schema.specs.declared.values.AttrValue.{AttrValue}
 use Rattle.resource_schema.specs.declared.values.AttrValue.TheVariants as value
 use Rattle.ident_rules.specs.Key.{same_key}
 use Rattle.resource_schema.specs.Kinds.{notes}
