@@ -41,38 +41,38 @@ use Rattle.http_messages.specs.declared.messages.Reply.{Reply}
 
 -- ---- short forms
 
-abbrev key_at : ℕ → List ℕ → Key
+abbrev pub key_at : ℕ → List ℕ → Key
 key_at kind id = record { kind = kind; id = id }
 
-abbrev named_by : ℕ → List ℕ → Who
+abbrev pub named_by : ℕ → List ℕ → Who
 named_by kind id = record { named = named.Id (key_at kind id); place = stands.Plain }
 
-abbrev member_of : ℕ → ℕ → List ℕ → Member
+abbrev pub member_of : ℕ → ℕ → List ℕ → Member
 member_of kind index id = record { named = named.Id (key_at kind id); index = Some index }
 
 -- the one member of a to-one relationship
-abbrev one_member_of : ℕ → List ℕ → List Member
+abbrev pub one_member_of : ℕ → List ℕ → List Member
 one_member_of kind id = record { named = named.Id (key_at kind id); index = None } ∷ []
 
-abbrev path_of : List ℕ → Path
+abbrev pub path_of : List ℕ → Path
 path_of rels = record { rels = rels }
 
-abbrev person : List ℕ → List ℕ → Operation
+abbrev pub person : List ℕ → List ℕ → Operation
 person id name = Create 2 (Some id) None (value.Text name ∷ []) []
 
-abbrev article : List ℕ → List (ℕ × List Member) → Operation
+abbrev pub article : List ℕ → List (ℕ × List Member) → Operation
 article title links = Create 0 None None (value.Null ∷ value.Text title ∷ value.Int (pos 0) ∷ []) links
 
-abbrev draft_of : AttrValue → Operation
+abbrev pub draft_of : AttrValue → Operation
 draft_of draft = Create 0 None None (draft ∷ value.Text (codes "T") ∷ value.Int (pos 0) ∷ []) []
 
-abbrev node : List ℕ → Operation
+abbrev pub node : List ℕ → Operation
 node id = Create 0 (Some id) None [] []
 
 -- ---- including
 
 -- people ann and bob, comments 1 by ann and 2 by bob, and article 1 by ann with both comments
-abbrev blog_with_people : World
+abbrev pub blog_with_people : World
 blog_with_people = effect blog empty_world (task.Change (
     person (codes "ann") (codes "Ann")
     ∷ person (codes "bob") (codes "Bob")
@@ -113,7 +113,7 @@ linkage_many = refl
 -- ---- relationships
 
 -- a person ann, and article 1 by ann
-abbrev by_ann : World
+abbrev pub by_ann : World
 by_ann = effect blog empty_world (task.Change (person (codes "ann") (codes "Ann") ∷ article (codes "T") ((0, one_member_of 2 (codes "ann")) ∷ []) ∷ []) reply_form.Results)
 
 abbrev set_author : List Member → Task
@@ -167,7 +167,7 @@ unfolding digits escape_byte
 no_such_author = refl
 
 -- article 1 with comments 1 and 2
-abbrev with_comments : World
+abbrev pub with_comments : World
 with_comments = effect blog empty_world (task.Change (
     Create 1 None None (value.Text (codes "c1") ∷ []) []
     ∷ Create 1 None None (value.Text (codes "c2") ∷ []) []
@@ -220,7 +220,7 @@ member_pointer_in_resource = refl
 
 -- ---- rows that lead to themselves
 
-abbrev nodes : Schema
+abbrev pub nodes : Schema
 nodes = record { name = codes "nodes"; client_ids = true; attributes = []; relationships = record { name = codes "all"; many = true; target = 0 } ∷ record { name = codes "next"; many = false; target = 0 } ∷ [] } ∷ []
 
 -- by its own local id, and by the id that it will have
@@ -230,7 +230,7 @@ loops =
     ∷ Create 0 (Some (codes "x")) None [] ((1, one_member_of 0 (codes "x")) ∷ [])
     ∷ []
 
-abbrev looped : World
+abbrev pub looped : World
 looped = effect nodes empty_world (task.Change loops reply_form.Results)
 
 abbrev remove_node : List ℕ → Task
@@ -260,10 +260,10 @@ primary_not_included = refl
 
 -- ---- pages
 
-abbrev remove_note : List ℕ → Task
+abbrev pub remove_note : List ℕ → Task
 remove_note id = task.Change (Remove (named_by 0 id) ∷ []) reply_form.Empty
 
-abbrev after_id : List ℕ → Place
+abbrev pub after_id : List ℕ → Place
 after_id id = record { values = []; id = id }
 
 -- the next page
@@ -292,17 +292,17 @@ unfolding digits escape_byte
 short_ids_first = refl
 
 -- articles 1 to 3, the first a draft, the second without saying so, the third none
-abbrev drafts : World
+abbrev pub drafts : World
 drafts = effect blog empty_world (task.Change (draft_of (value.Bool true) ∷ draft_of value.Null ∷ draft_of (value.Bool false) ∷ []) reply_form.Results)
 
 -- articles 1 to 3 with these titles
-abbrev titled : World
+abbrev pub titled : World
 titled = effect blog empty_world (task.Change (article (codes "b") [] ∷ article (codes "a") [] ∷ article (codes "b") [] ∷ []) reply_form.Results)
 
-abbrev by_attribute : ℕ → Bool → List SortKey
+abbrev pub by_attribute : ℕ → Bool → List SortKey
 by_attribute attribute descending = record { attribute = attribute; descending = descending } ∷ []
 
-abbrev ids_of_rows : Selected → List (List ℕ)
+abbrev pub ids_of_rows : Selected → List (List ℕ)
 ids_of_rows page = map (λ row. row.key.id) page.rows
 
 -- null, false, true
@@ -334,10 +334,10 @@ title_page = refl
 
 -- ---- lists
 
-abbrev with_lid : Operation
+abbrev pub with_lid : Operation
 with_lid = Create 2 None (Some (codes "p")) (value.Text (codes "Ann") ∷ []) []
 
-abbrev list_of : List Operation → Task
+abbrev pub list_of : List Operation → Task
 list_of operations = task.Change operations reply_form.Results
 
 -- a local id is bound once
@@ -449,7 +449,7 @@ covers_no_more = refl
 
 -- ---- what each refusal blames in a list
 
-abbrev refused_with : ℕ → List ℕ → Reply
+abbrev pub refused_with : ℕ → List ℕ → Reply
 refused_with status body = record { status = status; content = content.Plain; location = None; allow = allow.Nothing; body = body }
 
 -- a local id that is not bound, where the operation is named by `ref`
