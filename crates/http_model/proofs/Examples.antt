@@ -1,12 +1,12 @@
 -- Inputs with their answers, computed by the definitions.
 use Rattle.std.proofs.Common.{◌≡◌, ℕ, true, false, List, [], ◌∷◌, length, refl, Ok, Err, inl, inr}
-use Rattle.std.specs.Prelude.{codes, None, ◌++◌}
+use Rattle.std.specs.Prelude.{codes, None, ◌++◌, get_or, IsTrue}
 use Rattle.std.specs.Fmt.{digits}
-use Rattle.std.proofs.Common.{◌<◌, ◌≤◌, arith}
+use Rattle.std.proofs.Common.{◌<◌, ◌≤◌, arith, ap, ◌∙◌}
 use Rattle.std.specs.List.{list_all, flat_map}
-use Rattle.std.proofs.lemmas.List.Elements.{All-nil, All-cons}
+use Rattle.std.proofs.lemmas.List.Elements.{All-nil, All-cons, All-head}
 use Rattle.std.proofs.lemmas.List.Sums.{AllPass-from_list_all}
-use Rattle.httparse.specs.Grammar.{trim_ows, LineEnd, print_end, print_field, ChunkLine, IsChunkLine, print_chunk_line, is_ows, Field, IsField, crlf, lf, is_token_byte, is_value_byte}
+use Rattle.httparse.specs.Grammar.{AllPass, NeverHasSection, trim_ows, LineEnd, print_end, print_field, ChunkLine, IsChunkLine, print_chunk_line, is_ows, Field, IsField, crlf, lf, is_token_byte, is_value_byte}
 use Rattle.std.specs.Char.{is_ascii_hexdigit}
 use Rattle.http_messages.specs.declared.messages.Message.{Message}
 use Rattle.http_messages.specs.declared.messages.Field.{Field as MessageField}
@@ -14,7 +14,7 @@ use Rattle.http_messages.specs.ReplyText.{reason, reply_text, interim_text}
 use Rattle.http_messages.specs.declared.framings.Framing.TheVariants.{Empty, Length, Chunked}
 use Rattle.http_messages.specs.declared.framings.HeadFault.TheVariants.{Host, TwoFramings, BadCoding, UnknownCoding, BadLength, LongBody, Expectation}
 use Rattle.http_model.specs.Framings.{comma_parts, framing_of, expects_continue, closes, interim_of}
-use Rattle.http_model.specs.Bodies.{chunk_line_limit, trailer_limit, Chunk, IsChunk, ReadsChunked, bad_end, IsBadChunked, IsLargeChunked, IsCutChunked, cut_end, cut_trailers}
+use Rattle.http_model.specs.Bodies.{chunk_line_limit, trailer_limit, Chunk, IsChunk, ReadsChunked, bad_end, IsBadChunked, IsLargeChunked, IsCutChunked, bad_trailers, cut_end, cut_trailers}
 use Rattle.http_messages.specs.declared.framings.RefusedRest.TheVariants.{Hopeless, TooLarge, TooMany, Head, BadChunk, LargeBody}
 use Rattle.json.specs.Print.{escape_byte}
 use Rattle.http_model.specs.Refusals.{refusal_of}
@@ -555,3 +555,33 @@ other_byte_in_target = refl
 
 byte_behind_target : has_visible_target (codes "GET / " ++ 200 ∷ []) ≡ true
 byte_behind_target = refl
+
+-- ---- a trailer section that never comes
+
+-- a name does not begin with NUL
+at_name : (name a b c d rest more : List ℕ) → 0 < length name → AllPass is_token_byte name → 0 ∷ more ≡ ((((name ++ a) ++ b) ++ c) ++ d) ++ rest → ⊥
+unfolding is_token_byte
+at_name [] a b c d rest more some tokens e = omega (arith, some)
+at_name (x ∷ name) a b c d rest more some tokens e =
+    never (ap (λ l. is_token_byte (get_or l 0 0)) e ∙ All-head (λ y. IsTrue (is_token_byte y)) x name tokens)
+
+never_trailers : NeverHasSection (0 ∷ [])
+never_trailers more [] crlf rest (each, e) = cc
+never_trailers more [] lf rest (each, e) = cc
+never_trailers more (f ∷ fields) last rest (each, e) =
+    let is = All-head IsField f fields each in
+    at_name f.name (58 ∷ f.raw) (print_end f.end) (flat_map print_field fields) (print_end last) rest more is.name.0 is.name.1 e
+
+-- NUL behind the last chunk: the place is that of the trailer section
+bad_trailer : IsBadChunked (codes "0\r\n" ++ 0 ∷ []) 3
+unfolding print_chunk_line
+bad_trailer = record {
+  chunks = [];
+  left = codes "0\r\n" ++ 0 ∷ [];
+  so_far = record { each = All-nil IsChunk; within = omega arith; text = refl };
+  on = 3;
+  piece = bad_trailers (plain_line (codes "0")) (0 ∷ [])
+      (record { reads = (is_plain_line (codes "0") (omega arith) (omega arith) refl, refl); fits = omega arith }) refl
+      (never_trailers [], inl never_trailers);
+  at = refl;
+}
