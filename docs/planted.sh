@@ -47,8 +47,8 @@ applies() {
 {
     echo "# Bugs planted by hand"
     echo
-    echo "Made of docs/planted by docs/planted.sh, which checks that each bug still applies. Each was planted by itself, in code that"
-    echo "was proved; the must-fail edits of a crate are bugs of the same kind, which the gate tries in each run."
+    echo "Made of docs/planted by docs/planted.sh, which checks that each bug still applies. Each was planted in code that was proved"
+    echo "(VERIFICATION.md says how); the must-fail edits of a crate are bugs of the same kind, which the gate tries in each run."
     echo
     echo "| Crate | Must-fail edits | Planted beside them | Refused by the proof | Refused by a test alone | The same program | Open |"
     echo "|---|---|---|---|---|---|---|"
