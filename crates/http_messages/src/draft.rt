@@ -6,18 +6,19 @@ use outer_ends::{Failed, Sink, send_more};
 use std::marker::Model;
 
 /// The most bytes that wait in a draft.
-const ROOM: usize = 4096;
+pub const ROOM: usize = 4096;
 
 /// The end of a text, which waits to be sent, and whether its front was sent.
 #[derive(Drop)]
 pub struct Draft {
-    bytes: [u8; 4096],
+    bytes: [u8; ROOM],
     len: usize,
     sent: Result<(), Failed>,
 }
 
 impl Model for Draft {
     ghost use Rattle.std.specs.Prelude.{◌≤◌, take};
+    ghost use Rattle.http_messages.specs.declared.draft.TheConstants.{ROOM};
     ghost use Rattle.http_messages.specs.Draft.{DraftState};
 
     ghost Value = { DraftState };
@@ -27,7 +28,7 @@ impl Model for Draft {
       sent = d.sent;
     } };
 
-    ghost invariant = { λ d. d.len ≤ 4096 };
+    ghost invariant = { λ d. d.len ≤ ROOM };
 }
 
 impl Draft {
@@ -44,8 +45,8 @@ impl Draft {
 
     /// Goes on with the text. The piece waits where there is room for it; else what waits is sent, and then the piece.
     pub fn add<K: Sink>(&mut self, piece: &[u8], sink: &mut K)
-        ensures text { AddsText (K.written sink.old) (K.written sink.new) self.old self.new piece.now }
-        ensures cause { KeepsCause (K.faults sink.old) (K.faults sink.new) self.old.sent self.new.sent }
+        ensures text { AddsText (K.told sink.old) (K.told sink.new) self.old self.new piece.now }
+        ensures cause { KeepsCause (K.told sink.old).faults (K.told sink.new).faults self.old.sent self.new.sent }
     {
         if self.sent.is_err() {
             return;
@@ -62,8 +63,8 @@ impl Draft {
 
     /// Sends what waits, and tells whether the whole text was sent.
     pub fn finish<K: Sink>(self, sink: &mut K) -> Result<(), Failed>
-        ensures sends { EndsText (K.written sink.old) (K.written sink.new) self result }
-        ensures cause { KeepsCause (K.faults sink.old) (K.faults sink.new) self.sent result }
+        ensures sends { EndsText (K.told sink.old) (K.told sink.new) self result }
+        ensures cause { KeepsCause (K.told sink.old).faults (K.told sink.new).faults self.sent result }
     {
         if self.sent.is_err() {
             return self.sent;

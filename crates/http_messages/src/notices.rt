@@ -11,8 +11,8 @@ use outer_ends::{Failed, Sink, send_all};
 /// After `Failed` a proper prefix of it was written.
 #[tactic(auto, unfolding(crate::specs::ReplyText::interim_text))]
 pub fn send_continue<K: Sink>(sink: &mut K) -> Result<(), Failed>
-    ensures sends { Sends (K.written sink.old) (K.written sink.new) interim_text result }
-    ensures cause { HasCause (K.faults sink.old) (K.faults sink.new) result }
+    ensures sends { Sends (K.told sink.old) (K.told sink.new) interim_text result }
+    ensures cause { HasCause (K.told sink.old).faults (K.told sink.new).faults result }
 {
     send_all(b"HTTP/1.1 100 Continue\r\n\r\n", sink)
 }
@@ -22,8 +22,8 @@ pub fn send_continue<K: Sink>(sink: &mut K) -> Result<(), Failed>
 /// After `Failed` a proper prefix of it was written.
 #[tactic(auto, unfolding(crate::specs::ReplyText::unavailable_text))]
 pub fn send_unavailable<K: Sink>(sink: &mut K) -> Result<(), Failed>
-    ensures sends { Sends (K.written sink.old) (K.written sink.new) unavailable_text result }
-    ensures cause { HasCause (K.faults sink.old) (K.faults sink.new) result }
+    ensures sends { Sends (K.told sink.old) (K.told sink.new) unavailable_text result }
+    ensures cause { HasCause (K.told sink.old).faults (K.told sink.new).faults result }
 {
     send_all(
         b"HTTP/1.1 503 Service Unavailable\r\nVary: Accept\r\nContent-Length: 0\r\nConnection: close\r\n\r\n",
@@ -49,8 +49,8 @@ fn stop_of(stop: Stop) -> &'static [u8]
 ///
 /// After `Failed` a proper prefix of it was written.
 pub fn send_stop<K: Sink>(stop: Stop, sink: &mut K) -> Result<(), Failed>
-    ensures sends { Sends (K.written sink.old) (K.written sink.new) (stop_text stop) result }
-    ensures cause { HasCause (K.faults sink.old) (K.faults sink.new) result }
+    ensures sends { Sends (K.told sink.old) (K.told sink.new) (stop_text stop) result }
+    ensures cause { HasCause (K.told sink.old).faults (K.told sink.new).faults result }
 {
     send_all(stop_of(stop), sink)
 }

@@ -12,8 +12,8 @@ use outer_ends::{Failed, Sink};
 
 /// Adds the lines that every reply has, and the one that tells what its body is.
 fn add_start<K: Sink>(draft: &mut Draft, reply: &Reply, sink: &mut K)
-    ensures text { AddsText (K.written sink.old) (K.written sink.new) draft.old draft.new (start_text reply.now) }
-    ensures cause { KeepsCause (K.faults sink.old) (K.faults sink.new) draft.old.sent draft.new.sent }
+    ensures text { AddsText (K.told sink.old) (K.told sink.new) draft.old draft.new (start_text reply.now) }
+    ensures cause { KeepsCause (K.told sink.old).faults (K.told sink.new).faults draft.old.sent draft.new.sent }
 {
     let mut status = Buffer::new();
     draft.add(b"HTTP/1.1 ", sink);
@@ -26,8 +26,8 @@ fn add_start<K: Sink>(draft: &mut Draft, reply: &Reply, sink: &mut K)
 
 /// Adds the line that tells the body's length.
 fn add_length<K: Sink>(draft: &mut Draft, status: u16, length: usize, sink: &mut K)
-    ensures text { AddsText (K.written sink.old) (K.written sink.new) draft.old draft.new (length_line status length) }
-    ensures cause { KeepsCause (K.faults sink.old) (K.faults sink.new) draft.old.sent draft.new.sent }
+    ensures text { AddsText (K.told sink.old) (K.told sink.new) draft.old draft.new (length_line status length) }
+    ensures cause { KeepsCause (K.told sink.old).faults (K.told sink.new).faults draft.old.sent draft.new.sent }
 {
     if status == 204 {
         draft.add(b"", sink);
@@ -41,8 +41,8 @@ fn add_length<K: Sink>(draft: &mut Draft, status: u16, length: usize, sink: &mut
 
 /// Adds the line that tells a place.
 fn add_location<K: Sink>(draft: &mut Draft, location: &Option<Text>, sink: &mut K)
-    ensures text { AddsText (K.written sink.old) (K.written sink.new) draft.old draft.new (location_line location.now) }
-    ensures cause { KeepsCause (K.faults sink.old) (K.faults sink.new) draft.old.sent draft.new.sent }
+    ensures text { AddsText (K.told sink.old) (K.told sink.new) draft.old draft.new (location_line location.now) }
+    ensures cause { KeepsCause (K.told sink.old).faults (K.told sink.new).faults draft.old.sent draft.new.sent }
 {
     match location {
         None => draft.add(b"", sink),
@@ -66,8 +66,8 @@ pub fn send_reply<K: Sink>(
     close: bool,
     sink: &mut K,
 ) -> Result<(), Failed>
-    ensures sends { Sends (K.written sink.old) (K.written sink.new) (reply_text reply.now head_only close) result }
-    ensures cause { HasCause (K.faults sink.old) (K.faults sink.new) result }
+    ensures sends { Sends (K.told sink.old) (K.told sink.new) (reply_text reply.now head_only close) result }
+    ensures cause { HasCause (K.told sink.old).faults (K.told sink.new).faults result }
 {
     let mut draft = Draft::new();
     add_start(&mut draft, reply, sink);

@@ -21,8 +21,8 @@ pub struct FileOpener<R> {
 impl<R: Files> FileOpener<R> {
     /// An opener that has opened nothing, and has missed nothing.
     pub fn new(system: R) -> FileOpener<R>
-        ensures misses { ⟦<FileOpener<R> as Opener>⟧.misses result ≡ 0 }
-        ensures faults { ⟦<FileOpener<R> as Opener>⟧.faults result ≡ 0 }
+        ensures misses { (⟦<FileOpener<R> as Opener>⟧.told result).misses ≡ 0 }
+        ensures faults { (⟦<FileOpener<R> as Opener>⟧.told result).faults ≡ 0 }
     {
         FileOpener {
             system,
@@ -33,14 +33,14 @@ impl<R: Files> FileOpener<R> {
 
     /// How often a path was not there; it stays at the greatest `u64`.
     pub fn misses(&self) -> u64
-        ensures { result ≡ ⟦<FileOpener<R> as Opener>⟧.misses self.now }
+        ensures { result ≡ (⟦<FileOpener<R> as Opener>⟧.told self.now).misses }
     {
         self.misses
     }
 
     /// How often it, or a file that was given back, has failed; it stays at the greatest `u64`.
     pub fn faults(&self) -> u64
-        ensures { result ≡ ⟦<FileOpener<R> as Opener>⟧.faults self.now }
+        ensures { result ≡ (⟦<FileOpener<R> as Opener>⟧.told self.now).faults }
     {
         self.faults
     }
@@ -51,11 +51,7 @@ impl<R: Files> Opener for FileOpener<R> {
 
     type Src = StreamSource<R::File>;
 
-    ghost misses = { λ o. o.misses };
-
-    ghost faults = { λ o. o.faults };
-
-    ghost files = { λ o. None };
+    ghost told = { λ o. record { files = None; misses = o.misses; faults = o.faults } };
 
     fn open(&mut self, name: &str) -> Result<StreamSource<R::File>, OpenEnd> {
         match fs::open(&self.system, name) {

@@ -1,7 +1,7 @@
 ghost use Rattle.std.specs.Prelude.{◌≡◌, ◌<◌, IfOk, IsTrue, map, find, string_bytes, Some, None, IsErrAnd, false};
 ghost use Rattle.std.specs.Str.{bytes_eq};
 ghost use Rattle.std.specs.Option.{option_copied, option_map};
-ghost use Rattle.outer_ends.specs.Memory.{file_state, file_named, opened};
+ghost use Rattle.outer_ends.specs.Memory.{source_told, named_bytes, file_state, file_named, opened};
 ghost use Rattle.outer_ends.specs.Causes.{one_more};
 ghost use Rattle.outer_ends.specs.Opens.{bytes_of, HasMisses, HasFaults, CountsOne, IsFresh, Opens, AddsFaults};
 
@@ -10,7 +10,7 @@ use std::alloc::{AllocError, Global};
 use std::marker::Model;
 
 /// The most bytes that a source opened in memory gives in one read.
-const PIECE: usize = 8192;
+pub const MEMORY_PIECE: usize = 8192;
 
 /// Opens sources over bytes in memory by their names.
 #[derive(Drop)]
@@ -98,29 +98,25 @@ fn source_of(alloc: Global, file: &(String, Vec<u8>, Vec<u64>)) -> Result<Memory
 {
     let bytes = Vec::from_slice(alloc, &file.1)?;
     let failing = Vec::from_slice(alloc, &file.2)?;
-    Ok(MemorySource::new(bytes, PIECE, failing))
+    Ok(MemorySource::new(bytes, MEMORY_PIECE, failing))
 }
 
 impl Opener for MemoryOpener {
-    ghost use Rattle.outer_ends.specs.Memory.{named_bytes, is_next_failing, next_call};
+    ghost use Rattle.outer_ends.specs.Memory.{opener_told, is_next_failing, next_call};
     ghost use Rattle.outer_ends.specs.declared.traits.OpenEnd.TheVariants as OpenEnd;
 
     type Src = MemorySource;
 
-    ghost misses = { λ o. o.misses };
-
-    ghost faults = { λ o. o.faults };
-
-    ghost files = { λ o. Some (map named_bytes o.files) };
+    ghost told = { opener_told };
 
     /// Fails in the calls that are to fail and where there is no memory, and else opens the first
     /// file of that name, to give at most 8,192 bytes in one read.
     fn open(&mut self, name: &str) -> Result<MemorySource, OpenEnd>
-        ensures misses { HasMisses self.old.misses self.new.misses result }
-        ensures faults { HasFaults self.old.faults self.new.faults result }
-        ensures one { CountsOne self.old.misses self.new.misses self.old.faults self.new.faults result }
-        ensures fresh { IfOk result (λ source. IsFresh (Some source.taken) source.faults) }
-        ensures found { Opens (λ source. Some source.left) (bytes_of name.now (map named_bytes self.old.files)) result }
+        ensures misses { HasMisses (opener_told self.old) (opener_told self.new) result }
+        ensures faults { HasFaults (opener_told self.old) (opener_told self.new) result }
+        ensures one { CountsOne (opener_told self.old) (opener_told self.new) result }
+        ensures fresh { IfOk result (λ source. IsFresh (source_told source)) }
+        ensures found { Opens source_told (bytes_of name.now (map named_bytes self.old.files)) result }
         ensures files { self.new.files ≡ self.old.files }
         ensures fails { IsTrue (is_next_failing self.old.failing self.old.calls) → IsErrAnd result (λ end. end ≡ OpenEnd.Failed) }
         ensures missing { file_named name.now self.old.files ≡ None → is_next_failing self.old.failing self.old.calls ≡ false → IsErrAnd result (λ end. end ≡ OpenEnd.Missing) }
@@ -149,7 +145,7 @@ impl Opener for MemoryOpener {
     }
 
     fn done(&mut self, source: MemorySource)
-        ensures faults { AddsFaults source.faults self.old.faults self.new.faults }
+        ensures faults { AddsFaults (source_told source) (opener_told self.old) (opener_told self.new) }
         ensures one { 0 < source.faults → self.new.faults ≡ one_more self.old.faults }
         ensures others { self.new ≡ record self.old { faults = self.new.faults } }
     {

@@ -1,14 +1,17 @@
 use crate::{
-    Failed, FileOpener, MemoryOpener, MemorySink, MemorySource, OpenEnd, Opener, Sink, Source,
-    StreamSink, StreamSource, send_all, send_more,
+    Failed, FileOpener, Listener, MemoryListener, MemoryOpener, MemorySink, MemorySource, OpenEnd,
+    Opener, Sink, SocketListener, Source, StreamSink, StreamSource, send_all,
 };
-use std::alloc::Global;
+use std::alloc::{AllocError, Global};
 use std::io::{self, ErrorKind, Read, Write};
+use std::net::{Net, Shutdown, SocketAddr, TcpListener, TcpStream};
+use std::rt::Files;
 use std::test::Fail;
+use std::time::Duration;
 use std::{fs, process};
 
 /// What reads into room for seven bytes give: each piece with `|` behind it, and `!` for a failed read.
-fn pieces_of<S: Source>(alloc: Global, source: &mut S) -> Result<Vec<u8>, Fail> {
+fn pieces_of<S: Source>(alloc: Global, source: &mut S) -> Result<Vec<u8>, AllocError> {
     let mut pieces = Vec::new(alloc);
     for _ in 0..32 {
         let mut room = [0; 7];
@@ -24,113 +27,84 @@ fn pieces_of<S: Source>(alloc: Global, source: &mut S) -> Result<Vec<u8>, Fail> 
     Ok(pieces)
 }
 
-#[test]
-fn memory_sources_fail_where_they_are_told(rt: HostRuntime) -> Result<(), Fail> {
-    let alloc = rt.alloc();
-    let cases: [(usize, &[u64], &str, u64, u64); 4] = [
-        (100, &[], "abcdefg|hij|", 3, 0),
-        (4, &[], "abcd|efgh|ij|", 4, 0),
-        (4, &[1, 3], "!abcd|!efgh|ij|", 6, 2),
-        (9, &[3, 4], "abcdefg|hij|!!", 5, 2),
-    ];
-    for (piece, failing, want, calls, faults) in cases {
-        let bytes = b"abcdefghij".to_vec(alloc)?;
-        let mut source = MemorySource::new(bytes, piece, failing.to_vec(alloc)?);
-        assert_eq!(rt; pieces_of(alloc, &mut source)?.as_slice(), want.as_bytes());
-        assert_eq!(rt; source.calls(), calls, "calls for {want}");
-        assert_eq!(rt; source.faults(), faults, "faults for {want}");
-    }
-    Ok(())
-}
-
-#[test]
-fn memory_sinks_fail_where_they_are_told(rt: HostRuntime) -> Result<(), Fail> {
-    let alloc = rt.alloc();
-    let cases: [(&[u64], &str, bool, u64, u64); 3] = [
-        (&[], "one, two, three", true, 3, 0),
-        (&[2, 3], "one, ", false, 2, 1),
-        (&[1], "", false, 1, 1),
-    ];
-    for (failing, want, is_sent, calls, faults) in cases {
-        let mut sink = MemorySink::new(alloc, failing.to_vec(alloc)?);
-        let sent = send_all(b"one, ", &mut sink);
-        let sent = send_more(sent, b"two, ", &mut sink);
-        let sent = send_more(sent, b"three", &mut sink);
-        assert_eq!(rt; sent.is_ok(), is_sent, "{want}");
-        assert_eq!(rt; sink.written(), want.as_bytes());
-        assert_eq!(rt; sink.calls(), calls, "calls for {want}");
-        assert_eq!(rt; sink.faults(), faults, "faults for {want}");
-    }
-    Ok(())
-}
-
 /// Opens the name and gives the source back: what it gave, or `missing` or `failed`.
-fn pieces_at<O: Opener>(alloc: Global, opener: &mut O, name: &str) -> Result<Vec<u8>, Fail> {
+fn pieces_at<O: Opener>(alloc: Global, opener: &mut O, name: &str) -> Result<Vec<u8>, AllocError> {
     match opener.open(name) {
         Ok(mut source) => {
             let pieces = pieces_of(alloc, &mut source);
             opener.done(source);
             pieces
         }
-        Err(OpenEnd::Missing) => Ok(b"missing".to_vec(alloc)?),
-        Err(OpenEnd::Failed) => Ok(b"failed".to_vec(alloc)?),
+        Err(OpenEnd::Missing) => Vec::from_slice(alloc, b"missing"),
+        Err(OpenEnd::Failed) => Vec::from_slice(alloc, b"failed"),
     }
 }
 
-#[test]
-fn memory_openers_open_by_name(rt: HostRuntime) -> Result<(), Fail> {
-    let alloc = rt.alloc();
+/// What the names give, one behind another.
+fn pieces_at_all<O: Opener>(
+    alloc: Global,
+    opener: &mut O,
+    names: &[&str],
+) -> Result<Vec<u8>, AllocError> {
+    let mut all = Vec::new(alloc);
+    for name in names {
+        let pieces = pieces_at(alloc, opener, name)?;
+        all.extend_from_slice(&pieces)?;
+        all.push(b'/')?;
+    }
+    Ok(all)
+}
+
+/// A file whose second read fails.
+fn file(alloc: Global, name: &str, bytes: &str) -> Result<(String, Vec<u8>, Vec<u64>), AllocError> {
+    let failing = Vec::from_slice(alloc, &[2])?;
+    let content = Vec::from_slice(alloc, bytes.as_bytes())?;
+    Ok((String::from_str(alloc, name)?, content, failing))
+}
+
+/// An opener of three files, two of one name, whose third opening fails.
+fn opener(alloc: Global) -> Result<MemoryOpener, AllocError> {
     let mut files = Vec::new(alloc);
-    for (name, bytes, failing) in [
-        ("a", "first a", 0),
-        ("b", "all of b", 2),
-        ("a", "second a", 0),
-    ] {
-        let failing = vec![in alloc; failing]?;
-        files.push((
-            String::from_str(alloc, name)?,
-            bytes.as_bytes().to_vec(alloc)?,
-            failing,
-        ))?;
+    for (name, bytes) in [("a", "first"), ("b", "all of b"), ("a", "second")] {
+        files.push(file(alloc, name, bytes)?)?;
     }
-    let mut opener = MemoryOpener::new(alloc, files, vec![in alloc; 3]?);
-    let wants = [
-        ("a", "first a|"),
-        ("b", "all of |!b|"),
-        ("a", "failed"),
-        ("c", "missing"),
-        ("a", "first a|"),
-    ];
-    for (name, want) in wants {
-        assert_eq!(rt;
-            pieces_at(alloc, &mut opener, name)?.as_slice(),
-            want.as_bytes()
-        );
-    }
-    assert_eq!(rt; opener.misses(), 1);
-    assert_eq!(rt; opener.faults(), 2, "one open and one source failed");
+    Ok(MemoryOpener::new(alloc, files, Vec::from_slice(alloc, &[3])?))
+}
+
+#[test]
+fn memory_openers_open_with_ample_memory(rt: HostRuntime) -> Result<(), Fail> {
+    let mut opener = opener(rt.alloc())?;
+    let all = pieces_at_all(rt.alloc(), &mut opener, &["a", "b", "a", "c", "a"])?;
+    assert_eq!(rt;
+        all.as_slice(),
+        b"first|!/all of |!b|/failed/missing/first|!/".as_slice()
+    );
+    assert_eq!(rt; (opener.misses(), opener.faults()), (1, 4));
     Ok(())
+}
+
+/// What a file of ten bytes gives, and a path that is not there, and one that no file has.
+fn pieces_at_paths<R: Files>(
+    alloc: Global,
+    opener: &mut FileOpener<R>,
+    path: &str,
+) -> Result<Vec<u8>, AllocError> {
+    pieces_at_all(
+        alloc,
+        opener,
+        &[path, "/tmp/outer_ends/none", "nul \0 byte"],
+    )
 }
 
 #[test]
 fn files_open_by_path(rt: HostRuntime) -> Result<(), Fail> {
-    let alloc = rt.alloc();
-    let path = format!(in alloc; "/tmp/outer_ends_{}", process::id(rt.process()))?;
+    let path = format!(in rt.alloc(); "/tmp/outer_ends_{}", process::id(rt.process()))?;
     fs::write(&rt, path.as_str(), b"ten bytes.".as_slice())?;
-    let mut opener = FileOpener::new(rt);
-    assert_eq!(rt;
-        pieces_at(alloc, &mut opener, path.as_str())?.as_slice(),
-        b"ten byt|es.|".as_slice()
-    );
-    fs::remove_file(&rt, path.as_str())?;
-    assert_eq!(rt;
-        pieces_at(alloc, &mut opener, path.as_str())?.as_slice(),
-        b"missing".as_slice()
-    );
-    assert_eq!(rt;
-        pieces_at(alloc, &mut opener, "nul \0 byte")?.as_slice(),
-        b"failed".as_slice()
-    );
+    let mut opener = FileOpener::new(&rt);
+    let all = pieces_at_paths(rt.alloc(), &mut opener, path.as_str());
+    let removed = fs::remove_file(&rt, path.as_str());
+    assert!(rt; removed.is_ok());
+    assert_eq!(rt; all?.as_slice(), b"ten byt|es.|/missing/failed/".as_slice());
     assert_eq!(rt; (opener.misses(), opener.faults()), (1, 1));
     Ok(())
 }
@@ -173,34 +147,127 @@ impl<W: Write> Write for Short<W> {
 }
 
 #[test]
-fn streams_pass_bytes_on(rt: HostRuntime) -> Result<(), Fail> {
-    let alloc = rt.alloc();
-    let mut whole = StreamSource::new(b"ten bytes.".as_slice());
-    assert_eq!(rt;
-        pieces_of(alloc, &mut whole)?.as_slice(),
-        b"ten byt|es.|".as_slice()
-    );
+fn stream_sources_pass_bytes_on(rt: HostRuntime) -> Result<(), Fail> {
     let inner = b"ten bytes.".as_slice();
     let mut short = StreamSource::new(Short { inner, calls: 0 });
-    assert_eq!(rt;
-        pieces_of(alloc, &mut short)?.as_slice(),
-        b"ten|! by|tes|.|".as_slice()
-    );
+    let pieces = pieces_of(rt.alloc(), &mut short)?;
+    assert_eq!(rt; pieces.as_slice(), b"ten|! by|tes|.|".as_slice());
     assert_eq!(rt; short.faults(), 1);
+    Ok(())
+}
 
+/// Whether ten bytes go out in pieces of three, and a write of nothing is no fault.
+fn sends_whole(alloc: Global) -> bool {
     let inner = Vec::new(alloc);
     let mut sink = StreamSink::new(Short { inner, calls: 2 });
-    assert!(rt; send_all(b"ten bytes.", &mut sink).is_ok());
-    assert_eq!(rt; sink.write(b""), Ok(0), "a write of nothing is no fault");
-    assert_eq!(rt; sink.faults(), 0);
-    assert_eq!(rt;
-        sink.into_inner().inner.as_slice(),
-        b"ten bytes.".as_slice()
-    );
+    send_all(b"ten bytes.", &mut sink).is_ok()
+        && sink.write(b"") == Ok(0)
+        && sink.faults() == 0
+        && sink.into_inner().inner.as_slice() == b"ten bytes.".as_slice()
+}
+
+/// Whether a write that takes nothing ends them, as a fault.
+fn sends_front(alloc: Global) -> bool {
     let inner = Vec::new(alloc);
     let mut sink = StreamSink::new(Short { inner, calls: 0 });
-    assert!(rt; send_all(b"ten bytes.", &mut sink).is_err());
-    assert_eq!(rt; sink.faults(), 1);
-    assert_eq!(rt; sink.into_inner().inner.as_slice(), b"ten".as_slice());
+    send_all(b"ten bytes.", &mut sink).is_err()
+        && sink.faults() == 1
+        && sink.into_inner().inner.as_slice() == b"ten".as_slice()
+}
+
+#[test]
+fn stream_sinks_pass_bytes_on(rt: HostRuntime) {
+    assert!(rt; sends_whole(rt.alloc()));
+    assert!(rt; sends_front(rt.alloc()));
+}
+
+/// Accepts a connection, sends back what it brings, and gives it back: whether it ended without a fault.
+fn echo<L: Listener>(listener: &mut L) -> Option<bool> {
+    let Ok((mut source, mut sink)) = listener.accept() else {
+        return None;
+    };
+    let mut room = [0; 7];
+    let mut is_good = true;
+    for _ in 0..32 {
+        match source.read(&mut room) {
+            Ok(0) => break,
+            Ok(count) => is_good = is_good && send_all(&room[..count], &mut sink).is_ok(),
+            Err(Failed) => is_good = false,
+        }
+        if !is_good {
+            break;
+        }
+    }
+    listener.done(source, sink);
+    Some(is_good)
+}
+
+/// A listener of one connection, of which the first call fails.
+fn listener(alloc: Global) -> Result<MemoryListener, AllocError> {
+    let bytes = Vec::from_slice(alloc, b"ten bytes.")?;
+    let source = MemorySource::new(bytes, 4, Vec::new(alloc));
+    let sink = MemorySink::new(alloc, Vec::new(alloc));
+    let mut connections = Vec::new(alloc);
+    connections.push((source, sink))?;
+    Ok(MemoryListener::new(alloc, connections, Vec::from_slice(alloc, &[1])?))
+}
+
+/// Whether the one connection that came back was sent these bytes.
+fn was_sent(listener: &MemoryListener, bytes: &[u8]) -> bool {
+    match listener.closed() {
+        [(_, sink)] => sink.written() == bytes,
+        _ => false,
+    }
+}
+
+#[test]
+fn memory_listeners_accept_with_ample_memory(rt: HostRuntime) -> Result<(), Fail> {
+    let mut listener = listener(rt.alloc())?;
+    let ends = (
+        echo(&mut listener),
+        echo(&mut listener),
+        echo(&mut listener),
+    );
+    assert_eq!(rt; ends, (None, Some(true), None));
+    assert!(rt; was_sent(&listener, b"ten bytes."));
+    assert_eq!(rt; listener.faults(), 2);
+    Ok(())
+}
+
+/// Connects, and sends the bytes and that no more comes, unless there are none.
+fn client<R: Net<Stream = TcpStream>>(
+    rt: &R,
+    address: SocketAddr,
+    bytes: &[u8],
+) -> io::Result<TcpStream> {
+    let mut stream = TcpStream::connect(rt, address)?;
+    if !bytes.is_empty() {
+        stream.write_all(bytes)?;
+        stream.shutdown(Shutdown::Write)?;
+    }
+    Ok(stream)
+}
+
+#[test]
+fn sockets_pass_bytes_on(rt: HostRuntime) -> Result<(), Fail> {
+    let inner = TcpListener::bind(&rt, "127.0.0.1:0")?;
+    let address = inner.local_addr()?;
+    let mut listener = SocketListener::new(&rt, inner, Duration::from_millis(200));
+    let mut stream = client(&rt, address, b"ten bytes.")?;
+    assert_eq!(rt; echo(&mut listener), Some(true));
+    let mut all = Vec::new(rt.alloc());
+    stream.read_to_end(&mut all)?;
+    assert_eq!(rt; all.as_slice(), b"ten bytes.".as_slice());
+    Ok(())
+}
+
+#[test]
+fn a_silent_client_is_a_fault(rt: HostRuntime) -> Result<(), Fail> {
+    let inner = TcpListener::bind(&rt, "127.0.0.1:0")?;
+    let address = inner.local_addr()?;
+    let mut listener = SocketListener::new(&rt, inner, Duration::from_millis(200));
+    let silent = client(&rt, address, b"")?;
+    assert_eq!(rt; echo(&mut listener), Some(false));
+    drop(silent);
     Ok(())
 }

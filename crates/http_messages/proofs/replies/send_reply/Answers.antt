@@ -19,9 +19,9 @@ same_text r n m a b c d x y p q s t =
 pub returns-clause-sends : goal.returns-clause-sends
 unfolding reply_text
 returns-clause-sends g c =
-    let start = g.K.Sink.written c.args.sink.now in
+    let start = g.K.Sink.told c.args.sink.now in
     let drafts = c.add-4.ensures.text start _ (c.add-3.ensures.text start _ (c.add-2.ensures.text start _ (c.add.ensures.text start _
     (c.add_location.ensures.text start _ (c.add_length.ensures.text start _ (c.add_start.ensures.text start _ (drafts_none start _ c.new-draft.ensures))))))) in
-    subst (λ (l : List ℕ). Sends start (g.K.Sink.written c.finish.new.sink) l c.finish.result)
+    subst (λ (l : List ℕ). Sends start (g.K.Sink.told c.finish.new.sink) l c.finish.result)
     (same_text c.args.reply.now _ _ _ _ _ _ _ _ (ap length c.as_slice.ensures) c.allow_of.ensures c.closing_of.ensures c.body_of.ensures)
     (c.finish.ensures.sends start _ drafts)
