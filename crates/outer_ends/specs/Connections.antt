@@ -1,5 +1,5 @@
 -- What it says to accept a connection, and to give it back.
-use Rattle.std.specs.Prelude.{◌≡◌, ℕ, ◌+◌, List, [], ◌∷◌, ◌++◌, IfSome, IsNone, IsSome, Some, MatchResult, Result}
+use Rattle.std.specs.Prelude.{◌≡◌, ◌+◌, [], ◌∷◌, ◌++◌, IfSome, IsNone, IsSome, Some, MatchResult, Result}
 use Rattle.outer_ends.specs.Told.{SourceTold, SinkTold, Ended, ListenerTold}
 use Rattle.outer_ends.specs.Opens.{IsFresh}
 

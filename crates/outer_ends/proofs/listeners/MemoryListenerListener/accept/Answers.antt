@@ -1,4 +1,4 @@
-use Rattle.std.proofs.Common.{◌≡◌, ◌++◌, ◌∷◌, [], subst, All}
+use Rattle.std.proofs.Common.{subst, All}
 use Rattle.outer_ends.specs.Memory.{IsNew}
 use Rattle.outer_ends.proofs.Connections.{all_last}
 use Rattle.outer_ends.proofs.listeners.MemoryListenerListener.accept.Goals as goal

@@ -1,4 +1,4 @@
-use Rattle.std.proofs.Common.{◌≡◌, ◌++◌, ◌∷◌, [], ap, ◌∙◌}
+use Rattle.std.proofs.Common.{◌++◌, ◌∷◌, [], ap, ◌∙◌}
 use Rattle.outer_ends.specs.Memory.{ListenerState}
 use Rattle.outer_ends.proofs.Connections.{closes_one}
 use Rattle.outer_ends.proofs.listeners.MemoryListenerListener.done.Goals as goal
