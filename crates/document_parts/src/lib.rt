@@ -4,8 +4,6 @@
 
 mod pointers;
 mod reading;
-#[cfg(test)]
-mod tests;
 mod writing;
 
 pub use pointers::{item_pointer, member_pointer};

@@ -1,26 +1,8 @@
 //! jsonapid: a server of typed, linked resources by JSON:API 1.1.
 //!
-//! Today it has the command `pipe`: one connection from standard input to standard output, over the built-in type of notes or
-//! the types of a schema file, and a store of its own. See the README for what is built.
+//! Here stand the ends of the system alone: the words behind the program's name, standard input, standard output and files.
+//! What the program does with them is `command` of the crate commands.
 #![tactic(auto)]
-
-#[cfg(test)]
-mod bad_messages;
-mod commands;
-mod connections;
-mod notices;
-#[cfg(test)]
-mod orders;
-mod pipes;
-#[cfg(test)]
-mod relationships;
-#[cfg(test)]
-mod resources;
-#[cfg(test)]
-mod rows;
-mod schemas;
-#[cfg(test)]
-mod tests;
 
 use commands::command;
 use ident_rules::{NoMemory, Text};
@@ -31,11 +13,12 @@ use std::fs::Files;
 use std::io;
 use std::process::ExitCode;
 
-/// The words behind the program's name.
+/// The words behind the program's name. None stand for words of which one is not UTF-8, so that they are refused as wrong
+/// words are.
 fn words(rt: &(impl Env + AllocGlobal), alloc: Global) -> Result<Vec<Text>, NoMemory> {
     let mut words = Vec::new(alloc);
     let Ok(all) = env::args(rt) else {
-        return Err(NoMemory);
+        return Ok(words);
     };
     for word in all.skip(1) {
         words.push(Text::from_string(word))?;

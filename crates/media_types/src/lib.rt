@@ -18,5 +18,3 @@ pub use contents::content_ok;
 pub use media::read_media;
 pub use request_model::{Judged, Media, Need, Param};
 
-#[cfg(test)]
-mod tests;

@@ -8,8 +8,6 @@ mod laws;
 mod planner;
 mod replies;
 mod tasks;
-#[cfg(test)]
-mod tests;
 
 pub use laws::built_plan_is_the_plan;
 pub use planner::{LentTasks, RequestTasks};

@@ -9,8 +9,6 @@ mod linkages;
 mod parts;
 mod reads;
 mod refusals;
-#[cfg(test)]
-mod tests;
 mod updates;
 mod values;
 

@@ -5,8 +5,6 @@
 mod methods;
 mod pieces;
 mod routes;
-#[cfg(test)]
-mod tests;
 
 pub use methods::{allow_of, allows, need_of};
 pub use routes::find_target;

@@ -6,8 +6,6 @@ mod fields;
 mod kinds;
 mod names;
 mod parts;
-#[cfg(test)]
-mod tests;
 mod words;
 
 pub use faults::SchemaEnd;

@@ -5,8 +5,6 @@
 mod links;
 mod segments;
 mod targets;
-#[cfg(test)]
-mod tests;
 
 pub use links::{related_link, relationship_link, resource_link, with_query};
 pub use segments::{decode_segment, read_segment};

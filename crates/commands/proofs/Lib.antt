@@ -1,0 +1,3 @@
+mod PipeLaws
+mod Refusals
+mod OneOutput

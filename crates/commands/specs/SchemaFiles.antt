@@ -1,0 +1,86 @@
+-- What reading a schema file by an opener comes to.
+use Rattle.std.specs.Prelude.{◌≡◌, ℕ, ◌<◌, ◌≤◌, ⊤, List, [], ◌++◌, length, IfSome, IsSome, Option, Some, None, Result, Ok, Err}
+use Rattle.std.specs.Io.KnownBytes.{Consumes, IsAtEnd}
+use Rattle.outer_ends.specs.Causes.{Rose}
+use Rattle.outer_ends.specs.Opens.{bytes_of}
+use Rattle.resource_schema.specs.declared.schema.Schema.{Schema as SchemaKinds}
+use Rattle.resource_schema.specs.declared.faults.SchemaFault.{SchemaFault}
+use Rattle.request_model.specs.SchemaFile.{schema_of_text}
+use Rattle.commands.specs.declared.schemas.FileBytes.{FileBytes}
+use Rattle.commands.specs.declared.schemas.FileBytes.TheVariants as file
+use Rattle.commands.specs.declared.schemas.Piece.{Piece}
+use Rattle.commands.specs.declared.schemas.Piece.TheVariants as piece
+use Rattle.commands.specs.declared.schemas.SchemaRead.{SchemaRead}
+use Rattle.commands.specs.declared.schemas.SchemaRead.TheVariants as schema
+
+-- the most bytes of a schema file
+abbrev pub file_limit : ℕ
+file_limit = 1048576
+
+-- what one read said of the count of faults
+abbrev pub IsPieceCause : ℕ → ℕ → Piece → Type 0
+IsPieceCause faults faults_now piece.End = faults_now ≡ faults
+IsPieceCause faults faults_now piece.More = faults_now ≡ faults
+IsPieceCause faults faults_now piece.Failed = Rose faults faults_now
+IsPieceCause faults faults_now piece.NoMemory = faults_now ≡ faults
+
+-- what it gave, behind what was read
+abbrev pub IsPiece : Option (List ℕ) → Option (List ℕ) → List ℕ → List ℕ → Piece → Type 0
+IsPiece left left_now bytes bytes_now piece.End = Consumes left left_now [] × IsAtEnd left_now × (bytes_now ≡ bytes)
+IsPiece left left_now bytes bytes_now piece.More = (more : List ℕ) × Consumes left left_now more × (bytes_now ≡ bytes ++ more) × (0 < length more)
+IsPiece left left_now bytes bytes_now piece.Failed = ⊤
+IsPiece left left_now bytes bytes_now piece.NoMemory = ⊤
+
+-- what a source gave, which had these bytes left where it tells them
+abbrev pub IsRead : Option (List ℕ) → ℕ → ℕ → FileBytes → Type 0
+IsRead left faults faults_now (file.Whole bytes) = (faults_now ≡ faults) × (length bytes.items ≤ file_limit) × IfSome left (λ all. bytes.items ≡ all)
+IsRead left faults faults_now file.TooLarge = (faults_now ≡ faults) × IfSome left (λ all. file_limit < length all)
+IsRead left faults faults_now file.Failed = Rose faults faults_now
+IsRead left faults faults_now file.NoMemory = faults_now ≡ faults
+
+-- what a schema file gave whose bytes come to this schema, or this fault
+abbrev pub IsParsed : Result SchemaKinds SchemaFault → SchemaRead → Type 0
+IsParsed d (schema.Good s) = d ≡ Ok s
+IsParsed d (schema.Fault place why) = d ≡ Err (record { place = place; why = why })
+IsParsed d schema.NoMemory = ⊤
+IsParsed d schema.Missing = ⊥
+IsParsed d schema.TooLarge = ⊥
+IsParsed d schema.Failed = ⊥
+
+-- the schema or the fault of some bytes, which are these where they are told
+pub record Parses (told : Option (List ℕ)) (d : Result SchemaKinds SchemaFault) : Type 0 where
+  pub bytes : List ℕ
+  pub are_told : IfSome told (λ all. bytes ≡ all)
+  pub few : length bytes ≤ file_limit
+  pub comes_to : schema_of_text bytes ≡ d
+
+-- what a schema file gave that was open, and had these bytes where it tells them
+abbrev pub IsContent : Option (List ℕ) → SchemaRead → Type 0
+IsContent told (schema.Good s) = Parses told (Ok s)
+IsContent told (schema.Fault place why) = Parses told (Err (record { place = place; why = why }))
+IsContent told schema.TooLarge = IfSome told (λ all. file_limit < length all)
+IsContent told schema.Missing = ⊥
+IsContent told schema.Failed = ⊤
+IsContent told schema.NoMemory = ⊤
+
+-- the bytes of a path, where the opener tells its files and it is there
+abbrev pub told_of : Option (List (List ℕ × List ℕ)) → List ℕ → Option (List ℕ)
+told_of None path = None
+told_of (Some all) path = bytes_of path all
+
+-- what a path gave: it is missing where there is no such file, and else what its bytes come to
+abbrev pub IsFound : Option (List (List ℕ × List ℕ)) → List ℕ → SchemaRead → Type 0
+IsFound files path schema.Missing = IfSome files (λ all. bytes_of path all ≡ None)
+IsFound files path schema.Failed = ⊤
+IsFound files path schema.NoMemory = ⊤
+IsFound files path read = IfSome files (λ all. IsSome (bytes_of path all)) × IsContent (told_of files path) read
+
+-- it is missing only where the count of misses rose
+abbrev pub HasMiss : ℕ → ℕ → SchemaRead → Type 0
+HasMiss misses misses_now schema.Missing = Rose misses misses_now
+HasMiss misses misses_now read = misses_now ≡ misses
+
+-- it failed only where the count of faults rose
+abbrev pub HasFault : ℕ → ℕ → SchemaRead → Type 0
+HasFault faults faults_now schema.Failed = Rose faults faults_now
+HasFault faults faults_now read = faults_now ≡ faults

@@ -1,0 +1,168 @@
+ghost use Rattle.std.specs.Prelude.{◌≡◌, IsTrue, IsFalse, IfSome, IsNone, [], codes};
+ghost use Rattle.std.specs.Option.{option_copied};
+ghost use Rattle.resource_schema.specs.Kinds.{notes};
+ghost use Rattle.commands.specs.declared.schemas.SchemaRead.{SchemaRead as Read};
+ghost use Rattle.commands.specs.Pipes.{is_pipe, path_of, status_of, line, schema_line, refused_status, Refuses, Pipes, PipesRead, IsReadBy};
+
+use crate::connections::serve_connection;
+use crate::schemas::{SchemaRead, read_schema_file};
+use http_messages::SessionEnd;
+use ident_rules::{NoMemory, Text};
+use memory_desk::MemoryDesk;
+use outer_ends::{Failed, Opener, Sink, Source, send_all, send_more};
+use resource_schema::{Schema, Why};
+use schema_file::word_of;
+use session_engine::Limits;
+use std::alloc::Global;
+
+/// Whether the words are `pipe` alone.
+fn is_pipe(words: &[Text]) -> bool
+    ensures { result ≡ is_pipe words.now }
+{
+    match words {
+        [word] => word.as_str() == "pipe",
+        _ => false,
+    }
+}
+
+/// The path, where the words are `pipe` and a path.
+fn path_of(words: &[Text]) -> Option<&Text>
+    ensures { option_copied result ≡ path_of words.now }
+{
+    match words {
+        [word, path] if word.as_str() == "pipe" => Some(path),
+        _ => None,
+    }
+}
+
+/// The exit status for an end of the session.
+fn status_of(end: SessionEnd) -> u8
+    ensures { result ≡ status_of end }
+{
+    match end {
+        SessionEnd::Closed => 0,
+        SessionEnd::Refused(_) => 3,
+        SessionEnd::CutShort => 4,
+        SessionEnd::ReadFault => 1,
+        SessionEnd::WriteFault => 1,
+        SessionEnd::NoMemory => 5,
+        SessionEnd::Worn => 5,
+    }
+}
+
+/// The exit status for a line that was written.
+fn refused(sent: Result<(), Failed>) -> u8
+    ensures { result ≡ refused_status sent }
+{
+    match sent {
+        Ok(()) => 2,
+        Err(Failed) => 1,
+    }
+}
+
+/// Writes the line of a refusal: what is refused, and a text behind it.
+fn refuse<K: Sink>(what: &str, text: &str, sink: &mut K) -> u8
+    ensures { Refuses (line what.now text.now) (K.faults sink.old) (K.faults sink.new) (K.written sink.old) (K.written sink.new) result }
+{
+    let begun = send_all(b"jsonapid: ", sink);
+    let named = send_more(begun, what.as_bytes(), sink);
+    let told = send_more(named, text.as_bytes(), sink);
+    let ended = send_more(told, b"\n", sink);
+    refused(ended)
+}
+
+/// Writes the line of a schema's fault.
+fn refuse_schema<K: Sink>(place: &str, why: Why, sink: &mut K) -> u8
+    ensures { Refuses (schema_line place.now why) (K.faults sink.old) (K.faults sink.new) (K.written sink.old) (K.written sink.new) result }
+{
+    let begun = send_all(b"jsonapid: schema ", sink);
+    let placed = send_more(begun, place.as_bytes(), sink);
+    let parted = send_more(placed, b" ", sink);
+    let told = send_more(parted, word_of(why).as_bytes(), sink);
+    let ended = send_more(told, b"\n", sink);
+    refused(ended)
+}
+
+/// Serves one connection on a store of its own over a schema.
+fn pipe_on<S: Source, K: Sink>(alloc: Global, schema: &Schema, source: &mut S, sink: &mut K) -> u8
+    ensures { Pipes schema.now (S.faults source.old) (S.faults source.new) (K.faults sink.old) (K.faults sink.new) (S.taken source.old) (S.taken source.new) (S.left source.old) (S.left source.new) (K.written sink.old) (K.written sink.new) result }
+{
+    match schema.copy(alloc) {
+        Ok(own) => {
+            let mut desk = MemoryDesk::new(alloc, own);
+            let limits = Limits::standard();
+            let end = serve_connection(alloc, schema, limits, source, sink, &mut desk);
+            status_of(end)
+        }
+        Err(NoMemory) => 5,
+    }
+}
+
+/// Serves one connection over the built-in schema.
+fn pipe_notes<S: Source, K: Sink>(alloc: Global, source: &mut S, sink: &mut K) -> u8
+    ensures { Pipes notes (S.faults source.old) (S.faults source.new) (K.faults sink.old) (K.faults sink.new) (S.taken source.old) (S.taken source.new) (S.left source.old) (S.left source.new) (K.written sink.old) (K.written sink.new) result }
+{
+    match Schema::notes(alloc) {
+        Ok(schema) => pipe_on(alloc, &schema, source, sink),
+        Err(NoMemory) => 5,
+    }
+}
+
+/// Serves one connection over what a schema file gave.
+fn pipe_read<S: Source, K: Sink>(
+    alloc: Global,
+    path: &str,
+    read: SchemaRead,
+    source: &mut S,
+    sink: &mut K,
+) -> u8
+    ensures { PipesRead path.now read (S.faults source.old) (S.faults source.new) (K.faults sink.old) (K.faults sink.new) (S.taken source.old) (S.taken source.new) (S.left source.old) (S.left source.new) (K.written sink.old) (K.written sink.new) result }
+{
+    match read {
+        SchemaRead::Good(schema) => pipe_on(alloc, &schema, source, sink),
+        SchemaRead::Missing => refuse("missing ", path, sink),
+        SchemaRead::TooLarge => refuse("schema too large", "", sink),
+        SchemaRead::Fault { place, why } => refuse_schema(place.as_str(), why, sink),
+        SchemaRead::Failed => 1,
+        SchemaRead::NoMemory => 5,
+    }
+}
+
+/// The command `pipe`, given the words behind the program's name: serves one connection from the source to the sink on a
+/// store of its own, which begins empty. `pipe` alone serves the built-in type of notes, and `pipe PATH` the types of the schema
+/// file of that path. Its answer is the exit status:
+///
+/// - 0: every message was answered, and the input ended or the last message closed the connection;
+/// - 1: the source, the sink or the opener failed, and its count says so;
+/// - 2: one line was written: `jsonapid: words` where the words are others, `jsonapid: missing PATH` where the opener has no such
+///   file, `jsonapid: schema PLACE WHY` for its first fault, or `jsonapid: schema too large` where it has more than 1,048,576
+///   bytes. Nothing was read from the source;
+/// - 3: what followed the last message was refused (RFC 9112, section 2.2), and the connection closed;
+/// - 4: the input ended inside a message;
+/// - 5: want of memory.
+///
+/// The opener is asked for the path alone.
+pub fn pipe_command<S: Source, K: Sink, O: Opener>(
+    alloc: Global,
+    words: &[Text],
+    opener: &mut O,
+    source: &mut S,
+    sink: &mut K,
+) -> u8
+    ensures notes { IsTrue (is_pipe words.now) → Pipes notes (S.faults source.old) (S.faults source.new) (K.faults sink.old) (K.faults sink.new) (S.taken source.old) (S.taken source.new) (S.left source.old) (S.left source.new) (K.written sink.old) (K.written sink.new) result }
+    ensures path { IfSome (path_of words.now) (λ path. (read : Read)
+        × IsReadBy (O.files opener.old) (O.misses opener.old) (O.misses opener.new) (O.faults opener.old) (O.faults opener.new) path read
+        × PipesRead path read (S.faults source.old) (S.faults source.new) (K.faults sink.old) (K.faults sink.new) (S.taken source.old) (S.taken source.new) (S.left source.old) (S.left source.new) (K.written sink.old) (K.written sink.new) result) }
+    ensures refuses { IsFalse (is_pipe words.now) → IsNone (path_of words.now) → Refuses (line (codes "words") []) (K.faults sink.old) (K.faults sink.new) (K.written sink.old) (K.written sink.new) result }
+    ensures unread { IsFalse (is_pipe words.now) → IsNone (path_of words.now) → source.new ≡ source.old }
+    ensures unasked { IsNone (path_of words.now) → opener.new ≡ opener.old }
+{
+    if is_pipe(words) {
+        return pipe_notes(alloc, source, sink);
+    }
+    let Some(path) = path_of(words) else {
+        return refuse("words", "", sink);
+    };
+    let read = read_schema_file(alloc, path.as_str(), opener);
+    pipe_read(alloc, path.as_str(), read, source, sink)
+}
