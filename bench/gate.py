@@ -1,76 +1,119 @@
 #!/usr/bin/env python3
-"""Runs `rt ci` with the words given, and prints a table of the processor seconds of each crate: its proof, its tests, its edits.
+"""Measures what the gate costs, crate by crate, and writes the processor seconds into docs/gate.txt.
 
-The seconds are those of the prover's processes, looked at twice a second, so a process shorter than that is missed. What an earlier
-run kept costs nothing here: for a table from nothing, run `bench/gate.py --anew`, with nothing else on the machine.
+Usage: bench/gate.py NAME..     the crates named, in that order: name those below first, so that what stands below is kept
+
+Each crate goes through `rt ci NAME` three times in a copy: without its tests and must-fail edits, with its tests, and with its edits. The seconds are
+those that the system counts for the commands themselves and all that they waited for. What an earlier run kept costs nothing, so measure a crate
+before anything else has passed it; seconds that are 0 are left as they stand in docs/gate.txt.
 """
-import collections
 import os
+import re
+import resource
+import shutil
 import subprocess
 import sys
-import time
+import tempfile
 
 TOP = os.path.dirname(os.path.dirname(os.path.abspath(__file__)))
-TICKS = os.sysconf("SC_CLK_TCK")
+SECONDS = os.path.join(TOP, "docs", "gate.txt")
 
 
-def lines(crate, folder, ending, tests):
-    """The lines of a crate's files in a folder: those of tests or all others."""
-    total = 0
-    for where, _, names in os.walk(os.path.join(TOP, "crates", crate, folder)):
-        for name in names:
-            if name.endswith(ending) and (name == "tests.rt") == tests:
-                with open(os.path.join(where, name), encoding="utf-8") as file:
-                    total += sum(1 for _ in file)
-    return total
+def spent(command, where):
+    """Runs a command, and answers the processor seconds of it and its children, and whether it passed."""
+    before = resource.getrusage(resource.RUSAGE_CHILDREN)
+    ran = subprocess.run(command, cwd=where, stdout=subprocess.PIPE, stderr=subprocess.STDOUT, text=True)
+    after = resource.getrusage(resource.RUSAGE_CHILDREN)
+    passed = ran.returncode == 0
+    if not passed:
+        print(ran.stdout[-3000:])
+    return after.ru_utime - before.ru_utime + after.ru_stime - before.ru_stime, passed
 
 
-def edits(crate):
-    """How many must-fail edits a crate has."""
-    folder = os.path.join(TOP, "crates", crate, "must-fail")
-    return len(os.listdir(folder)) if os.path.isdir(folder) else 0
+def copy_of(room):
+    """A copy of the repository without what was built."""
+    ignored = shutil.ignore_patterns("out")
+    shutil.copytree(os.path.join(TOP, "crates"), os.path.join(room, "crates"), ignore=ignored)
+    for name in ("crates.txt", "HANDLES"):
+        shutil.copy(os.path.join(TOP, name), room)
 
 
-def look(seen, gate):
-    """Notes the processor time of each process of the prover that belongs to this run."""
-    for process in filter(str.isdigit, os.listdir("/proc")):
-        try:
-            with open(f"/proc/{process}/cmdline", "rb") as file:
-                words = [word.decode("utf8", "replace") for word in file.read().split(b"\0")]
-            if not words[0].endswith("/rattle") or "--crate-name" not in words:
-                continue
-            where = os.readlink(f"/proc/{process}/cwd")
-            with open(f"/proc/{process}/stat", encoding="utf-8") as file:
-                fields = file.read().rsplit(")", 1)[1].split()
-        except (OSError, IndexError):
-            continue
-        if where.startswith(TOP + "/"):
-            kind = "tests" if "--test" in words else "proof"
-        elif f"rt-edit-{gate}-" in where:
-            kind = "edits"
+def root_of(crate):
+    """The root file of a crate in a copy."""
+    for name in ("lib.rt", "main.rt"):
+        path = os.path.join(crate, "src", name)
+        if os.path.exists(path):
+            return path
+    raise SystemExit(f"{crate} has no root file")
+
+
+def without_tests(crate):
+    """Takes the modules of tests out of a crate in a copy, and answers whether there were any."""
+    root = root_of(crate)
+    text = open(root, encoding="utf-8").read()
+    modules = re.findall(r"#\[cfg\(test\)\]\nmod (\w+);\n", text)
+    open(root, "w", encoding="utf-8").write(re.sub(r"#\[cfg\(test\)\]\nmod \w+;\n", "", text))
+    for name in modules:
+        os.remove(os.path.join(crate, "src", name + ".rt"))
+    return bool(modules)
+
+
+def measured(name):
+    """The seconds of a crate's proof, tests and edits."""
+    with tempfile.TemporaryDirectory() as room:
+        copy_of(room)
+        crate = os.path.join(room, "crates", name)
+        shutil.rmtree(os.path.join(crate, "must-fail"), ignore_errors=True)
+        gate = ["rt", "ci", name]
+        tests, passed = 0, True
+        if without_tests(crate):
+            proof, passed = spent(gate, room)
+            shutil.rmtree(crate)
+            shutil.copytree(os.path.join(TOP, "crates", name), crate, ignore=shutil.ignore_patterns("out", "must-fail"))
+            both, well = spent(gate, room)
+            passed, tests = passed and well, max(0, both - proof)
         else:
-            continue
-        crate = words[words.index("--crate-name") + 1]
-        seen[(process, fields[19])] = (crate, kind, (int(fields[11]) + int(fields[12])) / TICKS)
+            proof, passed = spent(gate, room)
+        edits = os.path.join(TOP, "crates", name, "must-fail")
+        seconds = 0
+        if os.path.isdir(edits):
+            shutil.copytree(edits, os.path.join(crate, "must-fail"))
+            seconds, well = spent(gate, room)
+            passed = passed and well
+        return (round(proof), round(tests), round(seconds)), passed
+
+
+def known():
+    """The seconds that are written down."""
+    rows = {}
+    if os.path.exists(SECONDS):
+        for line in open(SECONDS, encoding="utf-8"):
+            if line.strip() and not line.startswith("#"):
+                name, *seconds = line.split()
+                rows[name] = tuple(map(int, seconds))
+    return rows
+
+
+def write(name, seconds):
+    """Writes the seconds of a crate down."""
+    rows = known()
+    rows[name] = tuple(new or old for new, old in zip(seconds, rows.get(name, (0, 0, 0))))
+    with open(SECONDS, "w", encoding="utf-8") as file:
+        file.write("# crate, and the processor seconds of its proof, its tests and its must-fail edits, by bench/gate.py\n")
+        for crate in sorted(rows):
+            file.write(" ".join([crate, *map(str, rows[crate])]) + "\n")
 
 
 def main():
-    gate = subprocess.Popen(["rt", "ci", *sys.argv[1:]], cwd=TOP)
-    seen = {}
-    while gate.poll() is None:
-        look(seen, gate.pid)
-        time.sleep(0.5)
-    spent = collections.Counter()
-    for crate, kind, seconds in seen.values():
-        spent[crate, kind] += seconds
-    print("| Crate | Code | Tests | Definitions | Proofs | Edits | Proof, s | Tests, s | Edits, s |")
-    print("|---|---|---|---|---|---|---|---|---|")
-    for crate in sorted(os.listdir(os.path.join(TOP, "crates"))):
-        row = [lines(crate, "src", ".rt", False), lines(crate, "src", ".rt", True), lines(crate, "specs", ".antt", False)]
-        row += [lines(crate, "proofs", ".antt", False), edits(crate)]
-        row += [round(spent[crate, kind]) for kind in ("proof", "tests", "edits")]
-        print(f"| `{crate}` | " + " | ".join(map(str, row)) + " |")
-    return gate.returncode
+    failed = []
+    for name in sys.argv[1:]:
+        seconds, passed = measured(name)
+        print(name, *seconds, "" if passed else "FAILED", flush=True)
+        if passed:
+            write(name, seconds)
+        else:
+            failed.append(name)
+    return 1 if failed else 0
 
 
 if __name__ == "__main__":
