@@ -3,25 +3,25 @@ use Rattle.std.proofs.Common.{◌≡◌, ℕ, ◌<◌, ◌≤◌, min, List, [],
 use Rattle.std.proofs.lemmas.List.{take_min}
 use Rattle.httparse.specs.Grammar.{ChunkLine, print_chunk_line, HasNoChunkLine, NeverHasChunkLine}
 use Rattle.httparse.specs.Spans.{IsChunkLineAt}
-use Rattle.http_model.specs.Bodies.{chunk_line_limit, trailer_limit}
 use Rattle.http_framing.specs.FillLaws.{whole_front}
 use Rattle.http_framing.specs.Sections.{IsOpenSection}
 use Rattle.http_bodies.specs.Lines.{HasLine, IsOpenLine}
+use Rattle.http_messages.specs.declared.limits.TheConstants.{CHUNK_LINE_LIMIT, TRAILER_LIMIT}
 
-pub has_line : (buffer bytes : List ℕ) (len size : ℕ) (line : ChunkLine) → bytes ≡ take chunk_line_limit buffer → IsChunkLineAt bytes len size line → HasLine buffer len size
+pub has_line : (buffer bytes : List ℕ) (len size : ℕ) (line : ChunkLine) → bytes ≡ take CHUNK_LINE_LIMIT buffer → IsChunkLineAt bytes len size line → HasLine buffer len size
 has_line buffer bytes len size line same at =
     let text = print_chunk_line line in
     let within : len ≤ length bytes = omega (arith, ap length at.reads.1, length-append text (drop len bytes), length-drop len bytes, at.len_is) in
-    let front : take chunk_line_limit buffer ≡ text ++ drop len (take chunk_line_limit buffer) =
+    let front : take CHUNK_LINE_LIMIT buffer ≡ text ++ drop len (take CHUNK_LINE_LIMIT buffer) =
     subst (λ (b : List ℕ). b ≡ text ++ drop len b) same at.reads.1 in
     record {
       line = line;
       takes = record {
-        reads = (at.reads.0, whole_front chunk_line_limit buffer text len front at.len_is);
-        fits = omega (arith, at.len_is, within, ap length same, length-take chunk_line_limit buffer);
+        reads = (at.reads.0, whole_front CHUNK_LINE_LIMIT buffer text len front at.len_is);
+        fits = omega (arith, at.len_is, within, ap length same, length-take CHUNK_LINE_LIMIT buffer);
       };
       len_is = at.len_is;
-      within = omega (arith, within, ap length same, length-take chunk_line_limit buffer);
+      within = omega (arith, within, ap length same, length-take CHUNK_LINE_LIMIT buffer);
       size_is = at.size_is;
     }
 
@@ -34,8 +34,8 @@ front_of limit k bytes buffer e same =
     let turned : min (length bytes) limit ≡ min limit (length bytes) = omega arith in
     ap (λ (n : ℕ). take n bytes) (e ∙ turned) ∙ take_min limit bytes ∙ ap (take limit) same
 
-pub open_line : (bytes : List ℕ) → IsOpenLine (take chunk_line_limit bytes) → length bytes < chunk_line_limit → IsOpenLine bytes
-open_line bytes h short = subst IsOpenLine (take_all chunk_line_limit bytes (omega arith)) h
+pub open_line : (bytes : List ℕ) → IsOpenLine (take CHUNK_LINE_LIMIT bytes) → length bytes < CHUNK_LINE_LIMIT → IsOpenLine bytes
+open_line bytes h short = subst IsOpenLine (take_all CHUNK_LINE_LIMIT bytes (omega arith)) h
 
-pub open_section : (bytes : List ℕ) → IsOpenSection (take trailer_limit bytes) → length bytes < trailer_limit → IsOpenSection bytes
-open_section bytes h short = subst IsOpenSection (take_all trailer_limit bytes (omega arith)) h
+pub open_section : (bytes : List ℕ) → IsOpenSection (take TRAILER_LIMIT bytes) → length bytes < TRAILER_LIMIT → IsOpenSection bytes
+open_section bytes h short = subst IsOpenSection (take_all TRAILER_LIMIT bytes (omega arith)) h

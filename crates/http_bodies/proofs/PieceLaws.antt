@@ -6,7 +6,6 @@ use Rattle.std.specs.declared.option.Option.{Option}
 use Rattle.httparse.specs.Grammar.{ChunkLine, print_chunk_line, chunk_size}
 use Rattle.httparse.specs.Ascii.{crlf_bytes}
 use Rattle.http_messages.specs.declared.framings.Framing.TheVariants.{Chunked}
-use Rattle.http_model.specs.Framings.{body_limit}
 use Rattle.http_model.specs.Bodies.{TakesChunkLine, Chunk, IsChunk, print_chunk, print_chunks, content_of, ChunksSoFar, IsBadTrailers, IsBadEnd, IsBadPiece, bad_end, bad_trailers, IsCutPiece, cut_content, cut_end, IsCutChunked}
 use Rattle.http_framing.specs.Fills.{Adds}
 use Rattle.http_framing.specs.FillLaws.{adds_none, adds_then, adds_behind}
@@ -18,6 +17,7 @@ use Rattle.http_bodies.specs.declared.bodies.BodyEnd.{BodyEnd}
 use Rattle.http_bodies.specs.declared.bodies.BodyEnd.TheVariants as found
 use Rattle.http_bodies.specs.declared.chunks.PieceEnd.{PieceEnd}
 use Rattle.http_bodies.specs.declared.chunks.PieceEnd.TheVariants as end
+use Rattle.http_messages.specs.declared.limits.TheConstants.{BODY_LIMIT}
 
 -- ---- what was seen
 
@@ -64,17 +64,17 @@ on_bad_trailers len line middle body h bad = (
   omega (arith, h.len_is, h.fits),
 )
 
-pub on_cut_data : (len size : ℕ) (line : ChunkLine) (part body : List ℕ) → IsLineOf len size line → 0 < size → length body + size ≤ body_limit → length part < size
+pub on_cut_data : (len size : ℕ) (line : ChunkLine) (part body : List ℕ) → IsLineOf len size line → 0 < size → length body + size ≤ BODY_LIMIT → length part < size
     → IsCutPiece (length body) (print_chunk_line line ++ (part ++ []))
 on_cut_data len size line part body h some within short =
     cut_content line (part ++ []) (line_reads len size line (part ++ []) h) (omega (arith, h.size_is)) (omega (arith, h.size_is)) (omega (arith, h.size_is, length-append part []))
 
-pub on_cut_edge : (len size : ℕ) (line : ChunkLine) (part after body : List ℕ) → IsLineOf len size line → 0 < size → length body + size ≤ body_limit → length part ≡ size → IsOpenEdge after
+pub on_cut_edge : (len size : ℕ) (line : ChunkLine) (part after body : List ℕ) → IsLineOf len size line → 0 < size → length body + size ≤ BODY_LIMIT → length part ≡ size → IsOpenEdge after
     → IsCutPiece (length body) (print_chunk_line line ++ (part ++ after))
 on_cut_edge len size line part after body h some within whole edge =
     cut_end line (part ++ after) part after (line_reads len size line (part ++ after) h) (omega (arith, h.size_is)) (omega (arith, h.size_is)) refl (whole ∙ h.size_is) edge
 
-pub on_bad_edge : (len size : ℕ) (line : ChunkLine) (part after body : List ℕ) → IsLineOf len size line → 0 < size → length body + size ≤ body_limit → length part ≡ size → IsBadEnd after
+pub on_bad_edge : (len size : ℕ) (line : ChunkLine) (part after body : List ℕ) → IsLineOf len size line → 0 < size → length body + size ≤ BODY_LIMIT → length part ≡ size → IsBadEnd after
     → IsBadPiece (length body) (print_chunk_line line ++ (part ++ after)) (len + size) × (len + size ≤ 1049600)
 on_bad_edge len size line part after body h some within whole bad =
     let place : length (print_chunk_line line) + chunk_size line ≡ len + size = omega (arith, h.size_is, h.len_is) in (
@@ -83,7 +83,7 @@ on_bad_edge len size line part after body h some within whole bad =
       omega (arith, h.len_is, h.fits),
     )
 
-pub on_chunk : (len size : ℕ) (line : ChunkLine) (part after rest body body_now now : List ℕ) → IsLineOf len size line → 0 < size → length body + size ≤ body_limit
+pub on_chunk : (len size : ℕ) (line : ChunkLine) (part after rest body body_now now : List ℕ) → IsLineOf len size line → 0 < size → length body + size ≤ BODY_LIMIT
     → length part ≡ size → body_now ≡ body ++ part → after ≡ 13 ∷ 10 ∷ rest → now ≡ drop 2 after
     → PieceOn body body_now (print_chunk_line line ++ (part ++ after)) None now (end.Chunk (len + size + 2))
 on_chunk len size line part after rest body body_now now h some within whole added edge behind =
@@ -99,8 +99,8 @@ on_chunk len size line part after rest body body_now now h some within whole add
       omega (arith, h.len_is, whole, length-append (print_chunk_line line ++ part) crlf_bytes, length-append (print_chunk_line line) part),
     )
 
-pub on_large : (len size : ℕ) (line : ChunkLine) (middle body : List ℕ) → IsLineOf len size line → body_limit < length body + size
-    → (l : ChunkLine) × (behind : List ℕ) × TakesChunkLine (print_chunk_line line ++ middle) l behind × (body_limit < length body + chunk_size l)
+pub on_large : (len size : ℕ) (line : ChunkLine) (middle body : List ℕ) → IsLineOf len size line → BODY_LIMIT < length body + size
+    → (l : ChunkLine) × (behind : List ℕ) × TakesChunkLine (print_chunk_line line ++ middle) l behind × (BODY_LIMIT < length body + chunk_size l)
 on_large len size line middle body h over = (line, middle, line_reads len size line middle h, omega (arith, h.size_is))
 
 -- ---- a line
@@ -140,7 +140,7 @@ chunks_on old buffer now body body_now place n t u v l m k p q =
 
 -- a chunk has at least one byte of data, and at most 1,026 others
 pub chunk_size_in : (body body_now seen now : List ℕ) (n : ℕ) → PieceOn body body_now seen None now (end.Chunk n)
-    → (length body < length body_now) × (length body_now ≤ body_limit) × (n + 1027 * length body ≤ 1027 * length body_now)
+    → (length body < length body_now) × (length body_now ≤ BODY_LIMIT) × (n + 1027 * length body ≤ 1027 * length body_now)
 chunk_size_in body body_now seen now n v =
     let c = v.0 in
     let sum : n ≡ length (print_chunk_line c.line) + length c.content + 2 =
@@ -159,7 +159,7 @@ seen_of old buffer now body body_now place t u v l m k e p q =
     adds_then old (print_chunks p.chunks ++ buffer) (print_chunks p.chunks ++ (buffer ++ q.bytes)) t u v l m k p.adds
     (adds_behind (print_chunks p.chunks) buffer (buffer ++ q.bytes) u v m k one)
 
-pub so_far_of : (old buffer body : List ℕ) (place : ℕ) (t u l m : Option (List ℕ)) (p : ChunksRead old buffer body place t u l m) (left : List ℕ) → length body ≤ body_limit
+pub so_far_of : (old buffer body : List ℕ) (place : ℕ) (t u l m : Option (List ℕ)) (p : ChunksRead old buffer body place t u l m) (left : List ℕ) → length body ≤ BODY_LIMIT
     → ChunksSoFar (print_chunks p.chunks ++ left) p.chunks left
 so_far_of old buffer body place t u l m p left within = record { each = p.each; within = omega (arith, ap length p.content, within); text = refl }
 
@@ -174,7 +174,7 @@ body_of old buffer now body body_now place t u v l m k e end p q verdict =
       verdict = subst (λ (s : List ℕ). BodyOn Chunked s k now end) a.kept verdict;
     }
 
-pub body_last : (old buffer now body body_now whole : List ℕ) (place : ℕ) (t u v l m k : Option (List ℕ)) → length body ≤ body_limit → whole ≡ body_now
+pub body_last : (old buffer now body body_now whole : List ℕ) (place : ℕ) (t u v l m k : Option (List ℕ)) → length body ≤ BODY_LIMIT → whole ≡ body_now
     → ChunksRead old buffer body place t u l m → TakesPiece body body_now buffer now u v m k end.Last → TakesBody Chunked old now t v l k (found.Body whole)
 body_last old buffer now body body_now whole place t u v l m k within same p q =
     body_of old buffer now body body_now place t u v l m k end.Last (found.Body whole) p q
@@ -190,7 +190,7 @@ body_last old buffer now body body_now whole place t u v l m k within same p q =
       same = same ∙ q.verdict.5 ∙ p.content;
     })
 
-cut_of : (old buffer body : List ℕ) (place : ℕ) (t u l m : Option (List ℕ)) (p : ChunksRead old buffer body place t u l m) (left : List ℕ) → length body ≤ body_limit
+cut_of : (old buffer body : List ℕ) (place : ℕ) (t u l m : Option (List ℕ)) (p : ChunksRead old buffer body place t u l m) (left : List ℕ) → length body ≤ BODY_LIMIT
     → IsCutPiece (length body) left → IsCutChunked (print_chunks p.chunks ++ left)
 cut_of old buffer body place t u l m p left within cut = record {
   chunks = p.chunks;
@@ -199,19 +199,19 @@ cut_of old buffer body place t u l m p left within cut = record {
   piece = subst (λ (b : List ℕ). IsCutPiece (length b) left) p.content cut;
 }
 
-pub body_cut : (old buffer now body body_now : List ℕ) (place : ℕ) (t u v l m k : Option (List ℕ)) → length body ≤ body_limit
+pub body_cut : (old buffer now body body_now : List ℕ) (place : ℕ) (t u v l m k : Option (List ℕ)) → length body ≤ BODY_LIMIT
     → ChunksRead old buffer body place t u l m → TakesPiece body body_now buffer now u v m k end.Cut → TakesBody Chunked old now t v l k found.CutShort
 body_cut old buffer now body body_now place t u v l m k within p q =
     body_of old buffer now body body_now place t u v l m k end.Cut found.CutShort p q
     (q.verdict.0, cut_of old buffer body place t u l m p (buffer ++ q.bytes) within q.verdict.1)
 
-pub body_fault : (old buffer now body body_now : List ℕ) (place : ℕ) (t u v l m k : Option (List ℕ)) → length body ≤ body_limit
+pub body_fault : (old buffer now body body_now : List ℕ) (place : ℕ) (t u v l m k : Option (List ℕ)) → length body ≤ BODY_LIMIT
     → ChunksRead old buffer body place t u l m → TakesPiece body body_now buffer now u v m k end.Fault → TakesBody Chunked old now t v l k found.ReadFault
 body_fault old buffer now body body_now place t u v l m k within p q =
     body_of old buffer now body body_now place t u v l m k end.Fault found.ReadFault p q
     (cut_of old buffer body place t u l m p (buffer ++ q.bytes) within q.verdict)
 
-pub body_bad : (old buffer now body body_now : List ℕ) (place on : ℕ) (t u v l m k : Option (List ℕ)) → length body ≤ body_limit
+pub body_bad : (old buffer now body body_now : List ℕ) (place on : ℕ) (t u v l m k : Option (List ℕ)) → length body ≤ BODY_LIMIT
     → ChunksRead old buffer body place t u l m → TakesPiece body body_now buffer now u v m k (end.Bad on) → TakesBody Chunked old now t v l k (found.BadChunk (place + on))
 body_bad old buffer now body body_now place on t u v l m k within p q =
     body_of old buffer now body body_now place t u v l m k (end.Bad on) (found.BadChunk (place + on)) p q (
@@ -226,7 +226,7 @@ body_bad old buffer now body body_now place on t u v l m k within p q =
       },
     )
 
-pub body_large : (old buffer now body body_now : List ℕ) (place : ℕ) (t u v l m k : Option (List ℕ)) → length body ≤ body_limit
+pub body_large : (old buffer now body body_now : List ℕ) (place : ℕ) (t u v l m k : Option (List ℕ)) → length body ≤ BODY_LIMIT
     → ChunksRead old buffer body place t u l m → TakesPiece body body_now buffer now u v m k end.TooLarge → TakesBody Chunked old now t v l k found.TooLarge
 body_large old buffer now body body_now place t u v l m k within p q =
     body_of old buffer now body body_now place t u v l m k end.TooLarge found.TooLarge p q (

@@ -6,15 +6,15 @@ use Rattle.std.specs.Io.KnownBytes.{Appends, Consumes, IsAtEnd}
 use Rattle.outer_ends.specs.Causes.{Rose}
 use Rattle.http_messages.specs.declared.framings.Framing.{Framing}
 use Rattle.http_messages.specs.declared.framings.Framing.TheVariants.{Empty, Length, Chunked}
-use Rattle.http_model.specs.Framings.{body_limit}
 use Rattle.http_model.specs.Bodies.{ReadsBody, IsCutBody, IsBadChunked, IsLargeChunked}
 use Rattle.http_bodies.specs.declared.bodies.BodyEnd.{BodyEnd}
 use Rattle.http_bodies.specs.declared.bodies.BodyEnd.TheVariants as body
+use Rattle.http_messages.specs.declared.limits.TheConstants.{BODY_LIMIT}
 
 -- a length is within the limit (of this project)
 abbrev pub FitsLimit : Framing → Type 0
 FitsLimit Empty = ⊤
-FitsLimit (Length n) = n ≤ body_limit
+FitsLimit (Length n) = n ≤ BODY_LIMIT
 FitsLimit Chunked = ⊤
 
 -- the answer, where these bytes were seen, and now these are left in the source and those in the buffer

@@ -4,11 +4,12 @@ use Rattle.std.specs.declared.option.Option.{Option}
 use Rattle.std.specs.Io.KnownBytes.{IsAtEnd}
 use Rattle.httparse.specs.Grammar.{ChunkLine, print_chunk_line, chunk_size, HasNoChunkLine, NeverHasChunkLine, MayBecomeChunkLine}
 use Rattle.outer_ends.specs.Causes.{Rose}
-use Rattle.http_model.specs.Bodies.{chunk_line_limit, TakesChunkLine, IsBadLine}
+use Rattle.http_model.specs.Bodies.{TakesChunkLine, IsBadLine}
 use Rattle.http_bodies.specs.declared.lines.Line.{Line}
 use Rattle.http_bodies.specs.declared.lines.Line.TheVariants as kind
 use Rattle.http_bodies.specs.declared.lines.LineEnd.{LineEnd}
 use Rattle.http_bodies.specs.declared.lines.LineEnd.TheVariants as end
+use Rattle.http_messages.specs.declared.limits.TheConstants.{CHUNK_LINE_LIMIT}
 
 -- the bytes begin with a chunk line within its limit, of so many bytes, which says that size
 pub record HasLine (bytes : List ℕ) (len size : ℕ) : Type 0 where
@@ -25,15 +26,15 @@ pub record IsOpenLine (bytes : List ℕ) : Type 0 where
 
 abbrev pub LineIs : List ℕ → Line → Type 0
 LineIs buffer (kind.Whole len size) = HasLine buffer len size
-LineIs buffer kind.Open = IsOpenLine (take chunk_line_limit buffer)
-LineIs buffer kind.Never = HasNoChunkLine (take chunk_line_limit buffer) × NeverHasChunkLine (take chunk_line_limit buffer)
+LineIs buffer kind.Open = IsOpenLine (take CHUNK_LINE_LIMIT buffer)
+LineIs buffer kind.Never = HasNoChunkLine (take CHUNK_LINE_LIMIT buffer) × NeverHasChunkLine (take CHUNK_LINE_LIMIT buffer)
 
 -- the answer, where the buffer holds these bytes
 abbrev pub LineOn : List ℕ → Option (List ℕ) → LineEnd → Type 0
 LineOn buffer left (end.Line len size) = HasLine buffer len size
 LineOn buffer left end.Bad = IsBadLine buffer
-LineOn buffer left end.Cut = (length buffer < chunk_line_limit) × IsOpenLine buffer × IsAtEnd left
-LineOn buffer left end.Fault = (length buffer < chunk_line_limit) × IsOpenLine buffer
+LineOn buffer left end.Cut = (length buffer < CHUNK_LINE_LIMIT) × IsOpenLine buffer × IsAtEnd left
+LineOn buffer left end.Fault = (length buffer < CHUNK_LINE_LIMIT) × IsOpenLine buffer
 
 -- a fault is answered exactly where the count rose, or stands at the greatest `u64`
 abbrev pub LineCause : ℕ → ℕ → LineEnd → Type 0

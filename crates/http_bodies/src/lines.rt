@@ -1,7 +1,7 @@
 ghost use Rattle.std.specs.Prelude.{◌≡◌, ℕ, List, take};
-ghost use Rattle.http_model.specs.Bodies.{chunk_line_limit};
 ghost use Rattle.http_framing.specs.Fills.{Adds};
 ghost use Rattle.http_bodies.specs.Lines.{LineIs, LineOn, LineCause};
+ghost use Rattle.http_messages.specs.declared.limits.TheConstants.{CHUNK_LINE_LIMIT};
 
 use http_framing::{Buffer, Fill};
 use httparse::{Status, parse_chunk_size};
@@ -33,7 +33,7 @@ pub enum LineEnd {
 
 // What the first 1,024 bytes of a buffer are.
 fn judge_line(bytes: &[u8]) -> Line
-    ensures { (buffer : List ℕ) → bytes.now ≡ take chunk_line_limit buffer → LineIs buffer result }
+    ensures { (buffer : List ℕ) → bytes.now ≡ take CHUNK_LINE_LIMIT buffer → LineIs buffer result }
 {
     match parse_chunk_size(bytes) {
         Ok(Status::Complete((len, size))) => Line::Whole(len, size),

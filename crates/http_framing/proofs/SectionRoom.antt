@@ -4,9 +4,10 @@ use Rattle.std.specs.List.{flat_map}
 use Rattle.httparse.specs.Grammar.{Field, LineEnd, lf, print_end, print_field, print_section, HasNoSection, NeverHasSection}
 use Rattle.httparse.specs.Spans.{SectionExceeds, IsSectionAt}
 use Rattle.httparse.specs.declared.spans.HeaderSpan.{HeaderSpan}
-use Rattle.http_model.specs.Bodies.{trailer_limit, TakesTrailers}
+use Rattle.http_model.specs.Bodies.{TakesTrailers}
 use Rattle.http_model.specs.MessageLaws.{fields_length}
 use Rattle.http_framing.specs.FillLaws.{whole_front}
+use Rattle.http_messages.specs.declared.limits.TheConstants.{TRAILER_LIMIT}
 
 -- the room is enough for the fields of so many bytes
 pub section_room : (p : List ℕ) (room : ℕ) → length p ≤ 3 * room → SectionExceeds room p → ⊥
@@ -23,18 +24,18 @@ section_room p room enough (front, rest, parts, fields, reads, over) =
       length-append (flat_map print_field fields) (print_end lf),
     )
 
-pub whole_section : (buffer bytes : List ℕ) (headers : List HeaderSpan) (len count : ℕ) (fields : List Field) (last : LineEnd) → bytes ≡ take trailer_limit buffer → len ≤ length bytes
+pub whole_section : (buffer bytes : List ℕ) (headers : List HeaderSpan) (len count : ℕ) (fields : List Field) (last : LineEnd) → bytes ≡ take TRAILER_LIMIT buffer → len ≤ length bytes
     → IsSectionAt bytes 0 headers len count fields last → (len ≤ length buffer) × TakesTrailers buffer (drop len buffer)
 whole_section buffer bytes headers len count fields last same within at =
     let size : len ≡ length (print_section fields last) = omega (arith, at.len_is) in
-    let front : take trailer_limit buffer ≡ print_section fields last ++ drop len (take trailer_limit buffer) =
+    let front : take TRAILER_LIMIT buffer ≡ print_section fields last ++ drop len (take TRAILER_LIMIT buffer) =
     subst (λ (b : List ℕ). b ≡ print_section fields last ++ drop len b) same at.reads.1 in (
-      omega (arith, within, ap length same, length-take trailer_limit buffer),
+      omega (arith, within, ap length same, length-take TRAILER_LIMIT buffer),
       record {
         fields = fields;
         last = last;
-        reads = (at.reads.0, whole_front trailer_limit buffer (print_section fields last) len front size);
-        fits = omega (arith, size, within, ap length same, length-take trailer_limit buffer);
+        reads = (at.reads.0, whole_front TRAILER_LIMIT buffer (print_section fields last) len front size);
+        fits = omega (arith, size, within, ap length same, length-take TRAILER_LIMIT buffer);
       },
     )
 

@@ -2,13 +2,14 @@
 use Rattle.std.proofs.Common.{◌≡◌, ℕ, ◌<◌, List, ◌++◌, length, refl, sym, ap, subst, ◌∙◌, arith, append_assoc, append-nil, take_all, length-append}
 use Rattle.std.specs.declared.option.Option.{Option}
 use Rattle.std.specs.Prelude.{IfSome, None, Some}
-use Rattle.http_model.specs.Heads.{front, head_limit, IsOpen}
+use Rattle.http_model.specs.Heads.{front, IsOpen}
 use Rattle.http_model.specs.Rests.{IsBetween}
 use Rattle.http_model.specs.Laws.{ReadStays}
 use Rattle.http_framing.specs.declared.heads.HeadEnd.{HeadEnd}
 use Rattle.http_framing.specs.declared.heads.HeadEnd.TheVariants as head
 use Rattle.http_framing.specs.Fills.{Adds}
 use Rattle.http_framing.specs.Taken.{TakesHead, VerdictOn, HeadOfRest}
+use Rattle.http_messages.specs.declared.limits.TheConstants.{HEAD_LIMIT}
 
 pub takes_of : (old now new : List ℕ) (t u l m : Option (List ℕ)) (end : HeadEnd) → Adds old now t u l m → VerdictOn now m new end → TakesHead old new t u l m end
 takes_of old now new t u l m end p v = record {
@@ -19,11 +20,11 @@ takes_of old now new t u l m end p v = record {
 }
 
 -- fewer bytes than the limit are their own front
-pub front_short : (xs : List ℕ) → length xs < head_limit → front xs ≡ xs
-front_short xs h = take_all head_limit xs (omega arith)
+pub front_short : (xs : List ℕ) → length xs < HEAD_LIMIT → front xs ≡ xs
+front_short xs h = take_all HEAD_LIMIT xs (omega arith)
 
 -- bytes that are open and fewer than the limit
-pub open_short : (b : List ℕ) → IsOpen (front b) → length b < head_limit → IsOpen b
+pub open_short : (b : List ℕ) → IsOpen (front b) → length b < HEAD_LIMIT → IsOpen b
 open_short b h short = subst IsOpen (front_short b short) h
 
 -- ---- by all that is left

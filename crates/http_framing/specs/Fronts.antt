@@ -4,12 +4,13 @@ use Rattle.httparse.specs.Grammar.{AllPass, RequestHead}
 use Rattle.httparse.specs.Spans.{IsRequestAt, IsRequestWithin}
 use Rattle.httparse.specs.declared.spans.HeaderSpan.{HeaderSpan}
 use Rattle.httparse.specs.declared.spans.RequestSpans.{RequestSpans}
-use Rattle.http_model.specs.Heads.{is_visible, ReadsHead, IsOpen, NeverHasHead, front, field_limit}
+use Rattle.http_model.specs.Heads.{is_visible, ReadsHead, IsOpen, NeverHasHead, front}
 use Rattle.http_model.specs.Messages.{IsMessageHead, FitsLimit}
 use Rattle.http_framing.specs.declared.fronts.Front.{Front}
 use Rattle.http_framing.specs.declared.fronts.Front.TheVariants.{Whole, Open, Never}
 use Rattle.http_framing.specs.declared.fronts.Judged.{Judged}
 use Rattle.http_framing.specs.declared.fronts.Judged.TheVariants as judged
+use Rattle.http_messages.specs.declared.limits.TheConstants.{FIELD_LIMIT}
 
 -- the spans are those of a whole head at the front of the bytes
 pub record WholeHead (bytes : List ℕ) (headers : List HeaderSpan) (spans : RequestSpans) : Type 0 where
@@ -26,8 +27,8 @@ FrontIs bytes headers Never = NeverHasHead bytes
 -- what stands at the front of a buffer
 abbrev pub JudgedIs : List ℕ → Judged → Type 0
 JudgedIs buffer (judged.Head m len) =
-    (len ≤ length buffer) × (h : RequestHead) × ReadsHead buffer h (drop len buffer) × FitsLimit h × (length h.fields ≤ field_limit) × IsMessageHead m h
-JudgedIs buffer judged.TooMany = (h : RequestHead) × (rest : List ℕ) × ReadsHead buffer h rest × FitsLimit h × (field_limit < length h.fields)
+    (len ≤ length buffer) × (h : RequestHead) × ReadsHead buffer h (drop len buffer) × FitsLimit h × (length h.fields ≤ FIELD_LIMIT) × IsMessageHead m h
+JudgedIs buffer judged.TooMany = (h : RequestHead) × (rest : List ℕ) × ReadsHead buffer h rest × FitsLimit h × (FIELD_LIMIT < length h.fields)
 JudgedIs buffer judged.Open = IsOpen (front buffer)
 JudgedIs buffer judged.Never = NeverHasHead (front buffer)
 JudgedIs buffer judged.NoMemory = ⊤

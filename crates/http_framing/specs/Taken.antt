@@ -6,24 +6,25 @@ use Rattle.std.specs.Io.KnownBytes.{Appends, Consumes, IsAtEnd}
 use Rattle.httparse.specs.Grammar.{RequestHead}
 use Rattle.outer_ends.specs.Causes.{Rose}
 use Rattle.http_messages.specs.declared.framings.RefusedRest.TheVariants.{Hopeless, TooLarge, TooMany}
-use Rattle.http_model.specs.Heads.{ReadsHead, IsOpen, NeverHasHead, front, head_limit, field_limit, IsEmptyLines}
+use Rattle.http_model.specs.Heads.{ReadsHead, IsOpen, NeverHasHead, front, IsEmptyLines}
 use Rattle.http_model.specs.Messages.{FitsLimit}
 use Rattle.http_model.specs.Requests.{ReadsWholeHead}
 use Rattle.http_model.specs.Rests.{IsBetween, IsRefused}
 use Rattle.http_framing.specs.declared.heads.HeadEnd.{HeadEnd}
 use Rattle.http_framing.specs.declared.heads.HeadEnd.TheVariants as head
+use Rattle.http_messages.specs.declared.limits.TheConstants.{FIELD_LIMIT, HEAD_LIMIT}
 
 -- the answer, where these bytes were seen, and now these are left in the source and those in the buffer
 abbrev pub VerdictOn : List ℕ → Option (List ℕ) → List ℕ → HeadEnd → Type 0
 VerdictOn seen left now (head.Head m) = ReadsWholeHead seen m now
 VerdictOn seen left now head.TooMany =
-    (now ≡ seen) × (h : RequestHead) × (rest : List ℕ) × ReadsHead seen h rest × FitsLimit h × (field_limit < length h.fields)
+    (now ≡ seen) × (h : RequestHead) × (rest : List ℕ) × ReadsHead seen h rest × FitsLimit h × (FIELD_LIMIT < length h.fields)
 VerdictOn seen left now head.Bad = (now ≡ seen) × NeverHasHead (front seen)
-VerdictOn seen left now head.TooLarge = (now ≡ seen) × (head_limit ≤ length seen) × IsOpen (front seen)
+VerdictOn seen left now head.TooLarge = (now ≡ seen) × (HEAD_LIMIT ≤ length seen) × IsOpen (front seen)
 VerdictOn seen left now head.End = (now ≡ seen) × IsAtEnd left × IsBetween seen
 VerdictOn seen left now head.CutShort =
-    (now ≡ seen) × IsAtEnd left × (length seen < head_limit) × IsOpen seen × ¬ (IsEmptyLines seen)
-VerdictOn seen left now head.ReadFault = (now ≡ seen) × (length seen < head_limit) × IsOpen seen
+    (now ≡ seen) × IsAtEnd left × (length seen < HEAD_LIMIT) × IsOpen seen × ¬ (IsEmptyLines seen)
+VerdictOn seen left now head.ReadFault = (now ≡ seen) × (length seen < HEAD_LIMIT) × IsOpen seen
 VerdictOn seen left now head.NoMemory = now ≡ seen
 
 -- what moved, and the answer
@@ -45,6 +46,6 @@ HeadOfRest rest now left head.Bad = IsRefused rest Hopeless [] false
 HeadOfRest rest now left head.TooLarge = IsRefused rest TooLarge [] false
 HeadOfRest rest now left head.TooMany = IsRefused rest TooMany [] false
 HeadOfRest rest now left head.End = IsBetween rest
-HeadOfRest rest now left head.CutShort = (length rest < head_limit) × IsOpen rest × ¬ (IsEmptyLines rest)
+HeadOfRest rest now left head.CutShort = (length rest < HEAD_LIMIT) × IsOpen rest × ¬ (IsEmptyLines rest)
 HeadOfRest rest now left head.ReadFault = ⊤
 HeadOfRest rest now left head.NoMemory = ⊤

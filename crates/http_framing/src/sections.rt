@@ -1,6 +1,6 @@
 ghost use Rattle.std.specs.Prelude.{◌≡◌, ◌≤◌, ◌*◌, ℕ, List, length, take};
-ghost use Rattle.http_model.specs.Bodies.{trailer_limit};
 ghost use Rattle.http_framing.specs.Sections.{SectionIs};
+ghost use Rattle.http_messages.specs.declared.limits.TheConstants.{TRAILER_LIMIT};
 
 use httparse::spans::{HeaderSpan, parse_headers};
 use httparse::{Error, Status};
@@ -19,7 +19,7 @@ pub enum Section {
 /// Judges the bytes at the front of a buffer.
 pub fn judge_section(bytes: &[u8], spans: &mut [HeaderSpan]) -> Section
     requires { length bytes.now ≤ 3 * length spans.old }
-    ensures { (buffer : List ℕ) → bytes.now ≡ take trailer_limit buffer → SectionIs buffer result }
+    ensures { (buffer : List ℕ) → bytes.now ≡ take TRAILER_LIMIT buffer → SectionIs buffer result }
 {
     match parse_headers(bytes, spans) {
         Ok(Status::Complete((len, _))) => Section::Whole(len),

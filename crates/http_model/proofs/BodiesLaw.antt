@@ -8,9 +8,9 @@ use Rattle.httparse.proofs.GrammarLemmas.{section_unique}
 use Rattle.httparse.proofs.ChunkLemmas.{chunk_line_unique}
 use Rattle.http_messages.specs.declared.framings.Framing.{Framing}
 use Rattle.http_messages.specs.declared.framings.Framing.TheVariants.{Empty, Length, Chunked}
-use Rattle.http_model.specs.Framings.{body_limit}
-use Rattle.http_model.specs.Bodies.{chunk_line_limit, trailer_limit, TakesChunkLine, TakesTrailers, Chunk, IsChunk, print_chunks, content_of, ChunksSoFar, IsBadLine, IsBadTrailers, IsBadEnd, IsBadPiece, bad_line, bad_end, bad_trailers, IsCutPiece, cut_line, cut_content, cut_end, cut_trailers, BodyKind, body_good, body_bad, body_large, body_cut, IsBodyKind}
+use Rattle.http_model.specs.Bodies.{TakesChunkLine, TakesTrailers, Chunk, IsChunk, print_chunks, content_of, ChunksSoFar, IsBadLine, IsBadTrailers, IsBadEnd, IsBadPiece, bad_line, bad_end, bad_trailers, IsCutPiece, cut_line, cut_content, cut_end, cut_trailers, BodyKind, body_good, body_bad, body_large, body_cut, IsBodyKind}
 use Rattle.http_model.proofs.Requests.{append_same, behind_line, chunk_line_at, body_unique}
+use Rattle.http_messages.specs.declared.limits.TheConstants.{BODY_LIMIT, CHUNK_LINE_LIMIT, TRAILER_LIMIT}
 
 -- ---- a limit
 
@@ -35,20 +35,20 @@ data TailKind : Type 0 where
 abbrev IsTail : List ℕ → TailKind → Type 0
 IsTail middle (tail_good rest) = TakesTrailers middle rest
 IsTail middle tail_bad = IsBadTrailers middle
-IsTail middle tail_cut = (length middle < trailer_limit) × HasNoSection middle × MayBecomeSection middle
+IsTail middle tail_cut = (length middle < TRAILER_LIMIT) × HasNoSection middle × MayBecomeSection middle
 
 good_bad_tail : (middle rest : List ℕ) → TakesTrailers middle rest → IsBadTrailers middle → ⊥
 good_bad_tail middle rest t bad =
-    bad.0 t.fields t.last (take (trailer_limit - length (print_section t.fields t.last)) rest)
-    (t.reads.0, taken trailer_limit middle (print_section t.fields t.last) rest t.fits t.reads.1)
+    bad.0 t.fields t.last (take (TRAILER_LIMIT - length (print_section t.fields t.last)) rest)
+    (t.reads.0, taken TRAILER_LIMIT middle (print_section t.fields t.last) rest t.fits t.reads.1)
 
 bad_cut_tail : (middle : List ℕ) → IsBadTrailers middle → IsTail middle tail_cut → ⊥
 bad_cut_tail middle bad cut = at bad.1
   where
-    at : NeverHasSection (take trailer_limit middle) ⊎ (trailer_limit ≤ length middle) → ⊥
+    at : NeverHasSection (take TRAILER_LIMIT middle) ⊎ (TRAILER_LIMIT ≤ length middle) → ⊥
     at (inl dead) =
         let may = cut.2 in
-        dead (drop trailer_limit middle ++ may.0) may.1 may.2 [] (may.3.0, sym (rejoined trailer_limit middle may.0) ∙ may.3.1)
+        dead (drop TRAILER_LIMIT middle ++ may.0) may.1 may.2 [] (may.3.0, sym (rejoined TRAILER_LIMIT middle may.0) ∙ may.3.1)
     at (inr full) = omega (arith, full, cut.0)
 
 tail_unique : (middle : List ℕ) (j k : TailKind) → IsTail middle j → IsTail middle k → j ≡ k
@@ -121,15 +121,15 @@ edge_piece k part edge_cut = piece_cut
 -- behind a line of k bytes that says n
 data Behind (before n k : ℕ) (middle : List ℕ) (j : PieceKind) : Type 0 where
   ends : n ≡ 0 → (t : TailKind) → IsTail middle t → j ≡ tail_piece k t → Behind before n k middle j
-  over : body_limit < before + n → j ≡ piece_large → Behind before n k middle j
-  short : 0 < n → before + n ≤ body_limit → length middle < n → j ≡ piece_cut → Behind before n k middle j
-  edge : 0 < n → before + n ≤ body_limit → (part after : List ℕ) → middle ≡ part ++ after → length part ≡ n → (e : EdgeKind) → IsEdge after e
+  over : BODY_LIMIT < before + n → j ≡ piece_large → Behind before n k middle j
+  short : 0 < n → before + n ≤ BODY_LIMIT → length middle < n → j ≡ piece_cut → Behind before n k middle j
+  edge : 0 < n → before + n ≤ BODY_LIMIT → (part after : List ℕ) → middle ≡ part ++ after → length part ≡ n → (e : EdgeKind) → IsEdge after e
       → j ≡ edge_piece (k + n) part e → Behind before n k middle j
 
 short_edge : (n : ℕ) (middle part after : List ℕ) → length middle < n → middle ≡ part ++ after → length part ≡ n → ⊥
 short_edge n middle part after s e p = omega (arith, s, ap length e, length-append part after, p)
 
-behind_unique : (before n k : ℕ) (middle : List ℕ) (i j : PieceKind) → before ≤ body_limit → Behind before n k middle i → Behind before n k middle j → i ≡ j
+behind_unique : (before n k : ℕ) (middle : List ℕ) (i j : PieceKind) → before ≤ BODY_LIMIT → Behind before n k middle i → Behind before n k middle j → i ≡ j
 behind_unique before n k middle i j w (ends z t h p) (ends y u g q) = p ∙ ap (tail_piece k) (tail_unique middle t u h g) ∙ sym q
 behind_unique before n k middle i j w (ends z t h p) (over o q) = absurd (omega (arith, z, o, w))
 behind_unique before n k middle i j w (ends z t h p) (short s l m q) = absurd (omega (arith, z, s))
@@ -151,21 +151,21 @@ behind_unique before n k middle i j w (edge s l a b e c d f p) (edge r u x y g h
 
 data Piece (before : ℕ) (bytes : List ℕ) (j : PieceKind) : Type 0 where
   no_line : IsBadLine bytes → j ≡ piece_bad 0 → Piece before bytes j
-  part_line : length bytes < chunk_line_limit → HasNoChunkLine bytes → MayBecomeChunkLine bytes → j ≡ piece_cut → Piece before bytes j
+  part_line : length bytes < CHUNK_LINE_LIMIT → HasNoChunkLine bytes → MayBecomeChunkLine bytes → j ≡ piece_cut → Piece before bytes j
   with_line : (l : ChunkLine) (middle : List ℕ) → TakesChunkLine bytes l middle → Behind before (chunk_size l) (length (print_chunk_line l)) middle j → Piece before bytes j
 
 bad_takes : (bytes : List ℕ) (l : ChunkLine) (middle : List ℕ) → IsBadLine bytes → TakesChunkLine bytes l middle → ⊥
 bad_takes bytes l middle bad t =
-    bad.0 l (take (chunk_line_limit - length (print_chunk_line l)) middle) (t.reads.0, taken chunk_line_limit bytes (print_chunk_line l) middle t.fits t.reads.1)
+    bad.0 l (take (CHUNK_LINE_LIMIT - length (print_chunk_line l)) middle) (t.reads.0, taken CHUNK_LINE_LIMIT bytes (print_chunk_line l) middle t.fits t.reads.1)
 
-bad_part : (bytes : List ℕ) → IsBadLine bytes → length bytes < chunk_line_limit → MayBecomeChunkLine bytes → ⊥
+bad_part : (bytes : List ℕ) → IsBadLine bytes → length bytes < CHUNK_LINE_LIMIT → MayBecomeChunkLine bytes → ⊥
 bad_part bytes bad short_of may = at bad.1
   where
-    at : NeverHasChunkLine (take chunk_line_limit bytes) ⊎ (chunk_line_limit ≤ length bytes) → ⊥
-    at (inl dead) = dead (drop chunk_line_limit bytes ++ may.0) may.1 [] (may.2.0, sym (rejoined chunk_line_limit bytes may.0) ∙ may.2.1)
+    at : NeverHasChunkLine (take CHUNK_LINE_LIMIT bytes) ⊎ (CHUNK_LINE_LIMIT ≤ length bytes) → ⊥
+    at (inl dead) = dead (drop CHUNK_LINE_LIMIT bytes ++ may.0) may.1 [] (may.2.0, sym (rejoined CHUNK_LINE_LIMIT bytes may.0) ∙ may.2.1)
     at (inr full) = omega (arith, full, short_of)
 
-piece_unique : (before : ℕ) (bytes : List ℕ) (i j : PieceKind) → before ≤ body_limit → Piece before bytes i → Piece before bytes j → i ≡ j
+piece_unique : (before : ℕ) (bytes : List ℕ) (i j : PieceKind) → before ≤ BODY_LIMIT → Piece before bytes i → Piece before bytes j → i ≡ j
 piece_unique before bytes i j w (no_line b p) (no_line c q) = p ∙ sym q
 piece_unique before bytes i j w (no_line b p) (part_line s n m q) = absurd (bad_part bytes b s m)
 piece_unique before bytes i j w (no_line b p) (with_line l m t h) = absurd (bad_takes bytes l m b t)
@@ -194,7 +194,7 @@ of_cut before bytes (cut_end l middle part after t s w e p c) = with_line l midd
 of_cut before bytes (cut_trailers l middle t z s n m) = with_line l middle t (ends z tail_cut (s, n, m) refl)
 
 of_chunk : (before : ℕ) (bytes : List ℕ) (c : Chunk) (cs : List Chunk) (left : List ℕ) → IsChunk c → bytes ≡ print_chunks (c ∷ cs) ++ left
-    → before + length c.content ≤ body_limit → Piece before bytes (piece_chunk c.content (print_chunks cs ++ left))
+    → before + length c.content ≤ BODY_LIMIT → Piece before bytes (piece_chunk c.content (print_chunks cs ++ left))
 of_chunk before bytes c cs left h e w =
     with_line c.line (behind_line c cs left) (record { reads = chunk_line_at bytes c cs left h e; fits = h.fits })
     (edge h.some (omega (arith, w, h.size)) c.content (crlf_bytes ++ (print_chunks cs ++ left)) refl h.size (edge_good (print_chunks cs ++ left)) refl refl)
@@ -209,7 +209,7 @@ IsFinal piece_cut = Unit {0}
 -- ---- chunks in a row
 
 aligned : (cs ds : List Chunk) (before : ℕ) (left other : List ℕ) (i j : PieceKind) → All IsChunk cs → All IsChunk ds
-    → print_chunks cs ++ left ≡ print_chunks ds ++ other → before + length (content_of cs) ≤ body_limit → before + length (content_of ds) ≤ body_limit
+    → print_chunks cs ++ left ≡ print_chunks ds ++ other → before + length (content_of cs) ≤ BODY_LIMIT → before + length (content_of ds) ≤ BODY_LIMIT
     → IsFinal i → IsFinal j → Piece (before + length (content_of cs)) left i → Piece (before + length (content_of ds)) other j → (cs ≡ ds) × (i ≡ j)
 aligned [] [] before left other i j x y e w v f g p q =
     (refl, piece_unique (before + 0) other i j w (subst (λ (l : List ℕ). Piece (before + 0) l i) e p) q)

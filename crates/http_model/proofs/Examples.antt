@@ -14,15 +14,16 @@ use Rattle.http_messages.specs.ReplyText.{reason, reply_text, interim_text}
 use Rattle.http_messages.specs.declared.framings.Framing.TheVariants.{Empty, Length, Chunked}
 use Rattle.http_messages.specs.declared.framings.HeadFault.TheVariants.{Host, TwoFramings, BadCoding, UnknownCoding, BadLength, LongBody, Expectation}
 use Rattle.http_model.specs.Framings.{comma_parts, framing_of, expects_continue, closes, interim_of}
-use Rattle.http_model.specs.Bodies.{chunk_line_limit, trailer_limit, Chunk, IsChunk, ReadsChunked, bad_end, IsBadChunked, IsLargeChunked, IsCutChunked, bad_trailers, cut_end, cut_trailers}
+use Rattle.http_model.specs.Bodies.{Chunk, IsChunk, ReadsChunked, bad_end, IsBadChunked, IsLargeChunked, IsCutChunked, bad_trailers, cut_end, cut_trailers}
 use Rattle.http_messages.specs.declared.framings.RefusedRest.TheVariants.{Hopeless, TooLarge, TooMany, Head, BadChunk, LargeBody}
 use Rattle.json.specs.Print.{escape_byte}
 use Rattle.http_model.specs.Refusals.{refusal_of}
 use Rattle.http_model.specs.Hopeless.{target_so_far, start_of, after_lines}
 use Rattle.http_model.specs.Blanks.{empty_lines}
 use Rattle.http_model.specs.Targets.{has_visible_target}
-use Rattle.http_model.specs.Heads.{is_visible, head_limit, field_limit}
+use Rattle.http_model.specs.Heads.{is_visible}
 use Rattle.http_model.specs.Requests.{LastCloses}
+use Rattle.http_messages.specs.declared.limits.TheConstants.{CHUNK_LINE_LIMIT, FIELD_LIMIT, HEAD_LIMIT, TRAILER_LIMIT}
 
 abbrev field : List ℕ → List ℕ → MessageField
 field name value = record { name = name; value = value }
@@ -468,16 +469,16 @@ delete_is_not = refl
 
 -- ---- the limits
 
-greatest_head : head_limit ≡ 16384
+greatest_head : HEAD_LIMIT ≡ 16384
 greatest_head = refl
 
-most_fields : field_limit ≡ 64
+most_fields : FIELD_LIMIT ≡ 64
 most_fields = refl
 
-greatest_line : chunk_line_limit ≡ 1024
+greatest_line : CHUNK_LINE_LIMIT ≡ 1024
 greatest_line = refl
 
-greatest_trailers : trailer_limit ≡ 16384
+greatest_trailers : TRAILER_LIMIT ≡ 16384
 greatest_trailers = refl
 
 -- ---- the 1,000,000th message is the last

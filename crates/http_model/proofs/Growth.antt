@@ -6,14 +6,15 @@ use Rattle.httparse.proofs.GrammarLemmas.{ReadsRequest-append}
 use Rattle.http_messages.specs.declared.messages.Message.{Message}
 use Rattle.http_messages.specs.declared.framings.RefusedRest.{RefusedRest}
 use Rattle.http_messages.specs.declared.framings.RefusedRest.TheVariants.{Hopeless, TooLarge, TooMany, Head, BadChunk, LargeBody}
-use Rattle.http_model.specs.Heads.{ReadsHead, NeverHasHead, IsOpen, front, head_limit}
+use Rattle.http_model.specs.Heads.{ReadsHead, NeverHasHead, IsOpen, front}
 use Rattle.http_model.specs.Requests.{ReadsWholeHead, ReadsMessage}
 use Rattle.http_model.specs.Rests.{Accepts, IsRefused, IsEarly}
 use Rattle.http_model.specs.Exchanges.{Plans, Exchange, Runs}
 use Rattle.http_model.proofs.Heads.{never_more}
 use Rattle.http_messages.specs.declared.framings.Framing.{Framing}
 use Rattle.http_messages.specs.declared.framings.Framing.TheVariants.{Empty, Length, Chunked}
-use Rattle.http_model.specs.Bodies.{chunk_line_limit, trailer_limit, TakesChunkLine, TakesTrailers, print_chunks, content_of, IsBadLine, IsBadTrailers, IsBadEnd, IsBadPiece, bad_line, bad_end, bad_trailers, IsBadChunked, IsLargeChunked, ReadsBody}
+use Rattle.http_model.specs.Bodies.{TakesChunkLine, TakesTrailers, print_chunks, content_of, IsBadLine, IsBadTrailers, IsBadEnd, IsBadPiece, bad_line, bad_end, bad_trailers, IsBadChunked, IsLargeChunked, ReadsBody}
+use Rattle.http_messages.specs.declared.limits.TheConstants.{CHUNK_LINE_LIMIT, HEAD_LIMIT, TRAILER_LIMIT}
 
 front_more : (a b c more : List ℕ) → a ≡ b ++ c → a ++ more ≡ b ++ (c ++ more)
 front_more a b c more e = ap (λ (l : List ℕ). l ++ more) e ∙ append_assoc b c more
@@ -33,28 +34,28 @@ taken_more (suc n) (b ∷ a) more = let r = taken_more n a more in (r.0, ap (λ 
 bad_line_more : (bytes more : List ℕ) → IsBadLine bytes → IsBadLine (bytes ++ more)
 bad_line_more bytes more x = at x.1
   where
-    at : NeverHasChunkLine (take chunk_line_limit bytes) ⊎ (chunk_line_limit ≤ length bytes) → IsBadLine (bytes ++ more)
+    at : NeverHasChunkLine (take CHUNK_LINE_LIMIT bytes) ⊎ (CHUNK_LINE_LIMIT ≤ length bytes) → IsBadLine (bytes ++ more)
     at (inl dead) =
-        let t = taken_more chunk_line_limit bytes more in (
+        let t = taken_more CHUNK_LINE_LIMIT bytes more in (
           λ l rest r. dead t.0 l rest (subst (λ (b : List ℕ). ReadsChunkLine b l rest) t.1 r),
-          inl (λ z l rest r. dead (t.0 ++ z) l rest (subst (λ (b : List ℕ). ReadsChunkLine b l rest) (ap (λ (b : List ℕ). b ++ z) t.1 ∙ append_assoc (take chunk_line_limit bytes) t.0 z) r)),
+          inl (λ z l rest r. dead (t.0 ++ z) l rest (subst (λ (b : List ℕ). ReadsChunkLine b l rest) (ap (λ (b : List ℕ). b ++ z) t.1 ∙ append_assoc (take CHUNK_LINE_LIMIT bytes) t.0 z) r)),
         )
     at (inr full) = (
-      λ l rest r. x.0 l rest (subst (λ (b : List ℕ). ReadsChunkLine b l rest) (take-append-le chunk_line_limit bytes more full) r),
+      λ l rest r. x.0 l rest (subst (λ (b : List ℕ). ReadsChunkLine b l rest) (take-append-le CHUNK_LINE_LIMIT bytes more full) r),
       inr (omega (arith, full, length-append bytes more)),
     )
 
 bad_trailers_more : (bytes more : List ℕ) → IsBadTrailers bytes → IsBadTrailers (bytes ++ more)
 bad_trailers_more bytes more x = at x.1
   where
-    at : NeverHasSection (take trailer_limit bytes) ⊎ (trailer_limit ≤ length bytes) → IsBadTrailers (bytes ++ more)
+    at : NeverHasSection (take TRAILER_LIMIT bytes) ⊎ (TRAILER_LIMIT ≤ length bytes) → IsBadTrailers (bytes ++ more)
     at (inl dead) =
-        let t = taken_more trailer_limit bytes more in (
+        let t = taken_more TRAILER_LIMIT bytes more in (
           λ f l rest r. dead t.0 f l rest (subst (λ (b : List ℕ). ReadsSection b f l rest) t.1 r),
-          inl (λ z f l rest r. dead (t.0 ++ z) f l rest (subst (λ (b : List ℕ). ReadsSection b f l rest) (ap (λ (b : List ℕ). b ++ z) t.1 ∙ append_assoc (take trailer_limit bytes) t.0 z) r)),
+          inl (λ z f l rest r. dead (t.0 ++ z) f l rest (subst (λ (b : List ℕ). ReadsSection b f l rest) (ap (λ (b : List ℕ). b ++ z) t.1 ∙ append_assoc (take TRAILER_LIMIT bytes) t.0 z) r)),
         )
     at (inr full) = (
-      λ f l rest r. x.0 f l rest (subst (λ (b : List ℕ). ReadsSection b f l rest) (take-append-le trailer_limit bytes more full) r),
+      λ f l rest r. x.0 f l rest (subst (λ (b : List ℕ). ReadsSection b f l rest) (take-append-le TRAILER_LIMIT bytes more full) r),
       inr (omega (arith, full, length-append bytes more)),
     )
 
@@ -118,10 +119,10 @@ whole_more bytes more m rest x =
 
 pub never_front_more : (bytes more : List ℕ) → NeverHasHead (front bytes) → NeverHasHead (front (bytes ++ more))
 never_front_more bytes more x =
-    let t = taken_more head_limit bytes more in subst NeverHasHead (sym t.1) (never_more (front bytes) t.0 x)
+    let t = taken_more HEAD_LIMIT bytes more in subst NeverHasHead (sym t.1) (never_more (front bytes) t.0 x)
 
-pub open_front_more : (bytes more : List ℕ) → head_limit ≤ length bytes → IsOpen (front bytes) → IsOpen (front (bytes ++ more))
-open_front_more bytes more full x = subst IsOpen (sym (take-append-le head_limit bytes more full)) x
+pub open_front_more : (bytes more : List ℕ) → HEAD_LIMIT ≤ length bytes → IsOpen (front bytes) → IsOpen (front (bytes ++ more))
+open_front_more bytes more full x = subst IsOpen (sym (take-append-le HEAD_LIMIT bytes more full)) x
 
 -- ---- messages
 

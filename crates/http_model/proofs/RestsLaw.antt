@@ -10,7 +10,7 @@ use Rattle.httparse.specs.Pieces.{is_newline}
 use Rattle.httparse.proofs.PieceLemmas.{token_is_no_newline}
 use Rattle.httparse.proofs.GrammarLemmas.{print_request-append}
 use Rattle.http_messages.specs.declared.messages.Message.{Message}
-use Rattle.http_model.specs.Heads.{is_visible, ReadsHead, NeverHasHead, IsOpen, front, head_limit, IsEmptyLines}
+use Rattle.http_model.specs.Heads.{is_visible, ReadsHead, NeverHasHead, IsOpen, front, IsEmptyLines}
 use Rattle.http_model.specs.Messages.{FitsLimit}
 use Rattle.http_messages.specs.declared.framings.Framing.{Framing}
 use Rattle.http_messages.specs.declared.framings.Framing.TheVariants.{Chunked}
@@ -25,12 +25,13 @@ use Rattle.http_model.proofs.BodiesLaw.{body_kind_unique}
 use Rattle.http_model.proofs.HopelessLaw.{in_front, at_end}
 use Rattle.http_model.proofs.Heads.{may_behind}
 use Rattle.http_model.proofs.Requests.{head_unique, whole_head_unique}
+use Rattle.http_messages.specs.declared.limits.TheConstants.{HEAD_LIMIT}
 
 never_read : (rest more : List ℕ) (h : RequestHead) (after : List ℕ) → NeverHasHead (front rest) → ReadsHead (rest ++ more) h after → ⊥
 never_read rest more h after never x =
-    never (drop head_limit rest ++ more) h after
+    never (drop HEAD_LIMIT rest ++ more) h after
     (subst (λ (l : List ℕ). ReadsHead l h after)
-    (ap (λ (l : List ℕ). l ++ more) (sym (take-append-drop head_limit rest)) ∙ append_assoc (take head_limit rest) (drop head_limit rest) more) x)
+    (ap (λ (l : List ℕ). l ++ more) (sym (take-append-drop HEAD_LIMIT rest)) ∙ append_assoc (take HEAD_LIMIT rest) (drop HEAD_LIMIT rest) more) x)
 
 never_whole : (rest : List ℕ) (h : RequestHead) (after : List ℕ) → NeverHasHead (front rest) → ReadsHead rest h after → ⊥
 never_whole rest h after never x = never_read rest [] h after never (record { reads = (x.reads.0, append-nil rest ∙ x.reads.1); target = x.target })
@@ -38,11 +39,11 @@ never_whole rest h after never x = never_read rest [] h after never (record { re
 -- a head within the limit stands in the front
 in_limit : (rest : List ℕ) (h : RequestHead) (after : List ℕ) → FitsLimit h → ReadsHead rest h after → (y : List ℕ) × ReadsHead (front rest) h y
 in_limit rest h after fits x = (
-  take (head_limit - length (print_request h)) after,
-  record { reads = (x.reads.0, ap (take head_limit) x.reads.1 ∙ ap (λ (n : ℕ). take n (print_request h ++ after)) sizes ∙ take-append-add (print_request h) after (head_limit - length (print_request h))); target = x.target },
+  take (HEAD_LIMIT - length (print_request h)) after,
+  record { reads = (x.reads.0, ap (take HEAD_LIMIT) x.reads.1 ∙ ap (λ (n : ℕ). take n (print_request h ++ after)) sizes ∙ take-append-add (print_request h) after (HEAD_LIMIT - length (print_request h))); target = x.target },
 )
   where
-    sizes : head_limit ≡ length (print_request h) + (head_limit - length (print_request h))
+    sizes : HEAD_LIMIT ≡ length (print_request h) + (HEAD_LIMIT - length (print_request h))
     sizes = omega (arith, fits)
 
 large_read : (rest : List ℕ) (h : RequestHead) (after : List ℕ) → FitsLimit h → IsOpen (front rest) → ReadsHead rest h after → ⊥

@@ -5,27 +5,19 @@ use Rattle.httparse.specs.Grammar.{ChunkLine, IsChunkLine, print_chunk_line, chu
 use Rattle.httparse.specs.Ascii.{crlf_bytes}
 use Rattle.http_messages.specs.declared.framings.Framing.{Framing}
 use Rattle.http_messages.specs.declared.framings.Framing.TheVariants.{Empty, Length, Chunked}
-use Rattle.http_model.specs.Framings.{body_limit}
-
--- the greatest chunk line (of this project)
-abbrev pub chunk_line_limit : ℕ
-chunk_line_limit = 1024
-
--- the greatest trailer section (of this project)
-abbrev pub trailer_limit : ℕ
-trailer_limit = 16384
+use Rattle.http_messages.specs.declared.limits.TheConstants.{BODY_LIMIT, CHUNK_LINE_LIMIT, TRAILER_LIMIT}
 
 -- a chunk line within its limit (RFC 9112, section 7.1)
 pub record TakesChunkLine (bytes : List ℕ) (line : ChunkLine) (rest : List ℕ) : Type 0 where
   pub reads : ReadsChunkLine bytes line rest
-  pub fits : length (print_chunk_line line) ≤ chunk_line_limit
+  pub fits : length (print_chunk_line line) ≤ CHUNK_LINE_LIMIT
 
 -- a trailer section and the line that ends it, within its limit (RFC 9112, section 7.1.2)
 pub record TakesTrailers (bytes : List ℕ) (rest : List ℕ) : Type 0 where
   pub fields : List Field
   pub last : LineEnd
   pub reads : ReadsSection bytes fields last rest
-  pub fits : length (print_section fields last) ≤ trailer_limit
+  pub fits : length (print_section fields last) ≤ TRAILER_LIMIT
 
 -- a chunk: its line, and as many bytes as that says (RFC 9112, section 7.1)
 pub record Chunk : Type 0 where
@@ -39,7 +31,7 @@ print_chunk c = print_chunk_line c.line ++ c.content ++ crlf_bytes
 -- a chunk of data: a line within its limit, and as much data as the line says, which is some
 pub record IsChunk (c : Chunk) : Type 0 where
   pub line : IsChunkLine c.line
-  pub fits : length (print_chunk_line c.line) ≤ chunk_line_limit
+  pub fits : length (print_chunk_line c.line) ≤ CHUNK_LINE_LIMIT
   pub some : 0 < chunk_size c.line
   pub size : length c.content ≡ chunk_size c.line
 
@@ -54,7 +46,7 @@ content_of chunks = flat_map (λ c. c.content) chunks
 -- bytes are these chunks, whose data is within the limit, and then left
 pub record ChunksSoFar (bytes : List ℕ) (chunks : List Chunk) (left : List ℕ) : Type 0 where
   pub each : All IsChunk chunks
-  pub within : length (content_of chunks) ≤ body_limit
+  pub within : length (content_of chunks) ≤ BODY_LIMIT
   pub text : bytes ≡ print_chunks chunks ++ left
 
 -- bytes are chunks, the last chunk and the trailer section, and then rest (RFC 9112, section 7.1)
@@ -74,12 +66,12 @@ pub record ReadsChunked (bytes body rest : List ℕ) : Type 0 where
 -- no line begins the bytes, and either none can or they reach the limit (of this project)
 abbrev pub IsBadLine : List ℕ → Type 0
 IsBadLine bytes =
-    HasNoChunkLine (take chunk_line_limit bytes) × (NeverHasChunkLine (take chunk_line_limit bytes) ⊎ (chunk_line_limit ≤ length bytes))
+    HasNoChunkLine (take CHUNK_LINE_LIMIT bytes) × (NeverHasChunkLine (take CHUNK_LINE_LIMIT bytes) ⊎ (CHUNK_LINE_LIMIT ≤ length bytes))
 
 -- no trailer section begins the bytes, and either none can or they reach the limit (of this project)
 abbrev pub IsBadTrailers : List ℕ → Type 0
 IsBadTrailers bytes =
-    HasNoSection (take trailer_limit bytes) × (NeverHasSection (take trailer_limit bytes) ⊎ (trailer_limit ≤ length bytes))
+    HasNoSection (take TRAILER_LIMIT bytes) × (NeverHasSection (take TRAILER_LIMIT bytes) ⊎ (TRAILER_LIMIT ≤ length bytes))
 
 -- what stands there is no CR LF, and cannot become it (RFC 9112, section 7.1)
 abbrev pub IsBadEnd : List ℕ → Type 0
@@ -91,7 +83,7 @@ IsBadEnd (b ∷ c ∷ bytes) = (b ≢ 13) ⊎ (c ≢ 10)
 pub data IsBadPiece (before : ℕ) (bytes : List ℕ) : ℕ → Type 0 where
   bad_line : IsBadLine bytes → IsBadPiece before bytes 0
   bad_end : (line : ChunkLine) (middle part after : List ℕ) → TakesChunkLine bytes line middle → 0 < chunk_size line
-      → before + chunk_size line ≤ body_limit → middle ≡ part ++ after → length part ≡ chunk_size line → IsBadEnd after
+      → before + chunk_size line ≤ BODY_LIMIT → middle ≡ part ++ after → length part ≡ chunk_size line → IsBadEnd after
       → IsBadPiece before bytes (length (print_chunk_line line) + chunk_size line)
   bad_trailers : (line : ChunkLine) (middle : List ℕ) → TakesChunkLine bytes line middle → chunk_size line ≡ 0 → IsBadTrailers middle
       → IsBadPiece before bytes (length (print_chunk_line line))
@@ -113,20 +105,20 @@ pub record IsLargeChunked (bytes : List ℕ) : Type 0 where
   pub line : ChunkLine
   pub middle : List ℕ
   pub takes : TakesChunkLine left line middle
-  pub over : body_limit < length (content_of chunks) + chunk_size line
+  pub over : BODY_LIMIT < length (content_of chunks) + chunk_size line
 
 -- ---- what is cut
 
 -- after so much data the bytes end inside a piece
 pub data IsCutPiece (before : ℕ) (bytes : List ℕ) : Type 0 where
-  cut_line : length bytes < chunk_line_limit → HasNoChunkLine bytes → MayBecomeChunkLine bytes → IsCutPiece before bytes
+  cut_line : length bytes < CHUNK_LINE_LIMIT → HasNoChunkLine bytes → MayBecomeChunkLine bytes → IsCutPiece before bytes
   cut_content : (line : ChunkLine) (middle : List ℕ) → TakesChunkLine bytes line middle → 0 < chunk_size line
-      → before + chunk_size line ≤ body_limit → length middle < chunk_size line → IsCutPiece before bytes
+      → before + chunk_size line ≤ BODY_LIMIT → length middle < chunk_size line → IsCutPiece before bytes
   cut_end : (line : ChunkLine) (middle part after : List ℕ) → TakesChunkLine bytes line middle → 0 < chunk_size line
-      → before + chunk_size line ≤ body_limit → middle ≡ part ++ after → length part ≡ chunk_size line
+      → before + chunk_size line ≤ BODY_LIMIT → middle ≡ part ++ after → length part ≡ chunk_size line
       → (after ≡ []) ⊎ (after ≡ 13 ∷ []) → IsCutPiece before bytes
   cut_trailers : (line : ChunkLine) (middle : List ℕ) → TakesChunkLine bytes line middle → chunk_size line ≡ 0
-      → length middle < trailer_limit → HasNoSection middle → MayBecomeSection middle → IsCutPiece before bytes
+      → length middle < TRAILER_LIMIT → HasNoSection middle → MayBecomeSection middle → IsCutPiece before bytes
 
 -- behind chunks the bytes end inside a piece
 pub record IsCutChunked (bytes : List ℕ) : Type 0 where

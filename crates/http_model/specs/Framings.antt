@@ -11,14 +11,7 @@ use Rattle.http_messages.specs.declared.framings.Framing.TheVariants.{Empty, Len
 use Rattle.http_messages.specs.declared.framings.HeadFault.{HeadFault}
 use Rattle.http_messages.specs.declared.framings.HeadFault.TheVariants.{Host, TwoFramings, BadCoding, UnknownCoding, BadLength, LongBody, Expectation}
 use Rattle.http_messages.specs.ReplyText.{interim_text}
-
--- the greatest body (of this project)
-abbrev pub body_limit : ℕ
-body_limit = 1048576
-
--- the messages that a connection may bring (of this project)
-abbrev pub message_limit : ℕ
-message_limit = 1000000
+use Rattle.http_messages.specs.declared.limits.TheConstants.{BODY_LIMIT, MESSAGE_LIMIT}
 
 -- ---- fields (RFC 9110, section 5)
 
@@ -131,7 +124,7 @@ has_bad_length m = not (is_none (lengths_of m)) && not (is_one (lengths_of m) &&
 
 -- a Content-Length above the limit (RFC 9110, section 15.5.14)
 abbrev pub has_long_body : Message → Bool
-has_long_body m = not (is_none (lengths_of m)) && nat_lt body_limit (size_of (lengths_of m))
+has_long_body m = not (is_none (lengths_of m)) && nat_lt BODY_LIMIT (size_of (lengths_of m))
 
 -- HTTP/1.1 with an Expect other than 100-continue (RFC 9110, section 10.1.1)
 abbrev pub has_other_expectation : Message → Bool
@@ -183,4 +176,4 @@ unfoldable pub closes : Message → ℕ → Bool
 closes m i =
     m.minor == 0
     || list_any (λ o. same_in_any_case (trim_ows o) (codes "close")) (parts_of (values_of (codes "connection") m.fields))
-    || i == message_limit
+    || i == MESSAGE_LIMIT

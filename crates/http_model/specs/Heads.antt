@@ -2,14 +2,7 @@
 -- included, whose target is visible ASCII (RFC 9112, sections 2, 3 and 5).
 use Rattle.std.specs.Prelude.{◌≡◌, ℕ, Bool, ◌&&◌, nat_le, List, [], ◌++◌, take}
 use Rattle.httparse.specs.Grammar.{AllPass, LineEnd, print_blank, RequestHead, ReadsRequest}
-
--- the greatest head, empty lines before it included (of this project)
-abbrev pub head_limit : ℕ
-head_limit = 16384
-
--- the greatest number of fields (of this project)
-abbrev pub field_limit : ℕ
-field_limit = 64
+use Rattle.http_messages.specs.declared.limits.TheConstants.{HEAD_LIMIT}
 
 -- visible ASCII (RFC 5234, VCHAR)
 abbrev pub is_visible : ℕ → Bool
@@ -41,7 +34,7 @@ pub record IsOpen (bytes : List ℕ) : Type 0 where
 
 -- the first bytes of a message, by which its head is judged
 abbrev pub front : List ℕ → List ℕ
-front bytes = take head_limit bytes
+front bytes = take HEAD_LIMIT bytes
 
 -- empty lines and nothing else (RFC 9112, section 2.2)
 abbrev pub IsEmptyLines : List ℕ → Type 0

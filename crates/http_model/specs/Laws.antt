@@ -6,12 +6,13 @@ use Rattle.httparse.specs.Spans.{RequestExceeds}
 use Rattle.http_messages.specs.declared.messages.Message.{Message}
 use Rattle.http_messages.specs.declared.framings.Framing.{Framing}
 use Rattle.http_messages.specs.declared.framings.RefusedRest.{RefusedRest}
-use Rattle.http_model.specs.Heads.{is_visible, ReadsHead, NeverHasHead, IsOpen, front, head_limit, IsEmptyLines}
+use Rattle.http_model.specs.Heads.{is_visible, ReadsHead, NeverHasHead, IsOpen, front, IsEmptyLines}
 use Rattle.http_model.specs.Targets.{has_visible_target}
 use Rattle.http_model.specs.Blanks.{empty_lines}
 use Rattle.http_model.specs.Bodies.{ReadsBody, IsBadChunked, IsLargeChunked}
 use Rattle.http_model.specs.Requests.{ReadsWholeHead, ReadsMessage, HasNoMessage}
 use Rattle.http_model.specs.Rests.{IsBetween, IsRefused, IsCut, IsEarly}
+use Rattle.http_messages.specs.declared.limits.TheConstants.{HEAD_LIMIT}
 
 -- what httparse's answers, and three tests that compute, say of heads
 pub record HeadsDecided : Type 0 where
@@ -35,7 +36,7 @@ pub record ReadStays : Type 0 where
   pub whole_head : (bytes more : List ℕ) (m : Message) (rest : List ℕ) → ReadsWholeHead bytes m rest → ReadsWholeHead (bytes ++ more) m (rest ++ more)
   pub never : (bytes more : List ℕ) → NeverHasHead bytes → NeverHasHead (bytes ++ more)
   pub never_front : (bytes more : List ℕ) → NeverHasHead (front bytes) → NeverHasHead (front (bytes ++ more))
-  pub open_front : (bytes more : List ℕ) → head_limit ≤ length bytes → IsOpen (front bytes) → IsOpen (front (bytes ++ more))
+  pub open_front : (bytes more : List ℕ) → HEAD_LIMIT ≤ length bytes → IsOpen (front bytes) → IsOpen (front (bytes ++ more))
   pub body : (framing : Framing) (bytes more body rest : List ℕ) → ReadsBody framing bytes body rest → ReadsBody framing (bytes ++ more) body (rest ++ more)
   pub bad_chunk : (bytes more : List ℕ) (place : ℕ) → IsBadChunked bytes place → IsBadChunked (bytes ++ more) place
   pub large_body : (bytes more : List ℕ) → IsLargeChunked bytes → IsLargeChunked (bytes ++ more)

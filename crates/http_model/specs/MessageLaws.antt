@@ -6,6 +6,7 @@ use Rattle.std.proofs.lemmas.Bool.{false≢true}
 use Rattle.std.proofs.lemmas.List.Elements.{All-head, All-tail}
 use Rattle.httparse.specs.Grammar.{Field, IsField, LineEnd, crlf, lf, print_end, print_field}
 use Rattle.http_messages.specs.declared.messages.Message.{Message}
+use Rattle.http_messages.specs.declared.limits.TheConstants.{MESSAGE_LIMIT}
 use Rattle.http_model.specs.Framings.{closes}
 
 -- each field has three bytes at least
@@ -26,11 +27,11 @@ or_true : (b : Bool) → (b || true) ≡ true
 or_true true = refl
 or_true false = refl
 
-below_last : (x : Bool) (n : ℕ) (b : Bool) → eqb n 1000000 ≡ b → IsFalse (x || b) → n ≤ 1000000 → n < 1000000
+below_last : (x : Bool) (n : ℕ) (b : Bool) → eqb n MESSAGE_LIMIT ≡ b → IsFalse (x || b) → n ≤ MESSAGE_LIMIT → n < MESSAGE_LIMIT
 below_last x n true e h le = absurd (false≢true (sym h ∙ or_true x))
-below_last x n false e h le = let other : n ≢ 1000000 = λ same. false≢true (sym e ∙ eq-eqb n 1000000 same) in omega (arith, other)
+below_last x n false e h le = let other : n ≢ 1000000 = λ same. false≢true (sym e ∙ eq-eqb n MESSAGE_LIMIT same) in omega (arith, other)
 
 -- a message that does not close is not the last that may come
-pub few_more : (m : Message) (n : ℕ) → n ≤ 1000000 → IsFalse (closes m n) → n < 1000000
+pub few_more : (m : Message) (n : ℕ) → n ≤ MESSAGE_LIMIT → IsFalse (closes m n) → n < MESSAGE_LIMIT
 unfolding closes
-few_more m n le h = below_last _ n (eqb n 1000000) refl h le
+few_more m n le h = below_last _ n (eqb n MESSAGE_LIMIT) refl h le

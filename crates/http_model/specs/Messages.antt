@@ -4,7 +4,7 @@ use Rattle.httparse.specs.Grammar.{RequestHead, print_request}
 use Rattle.httparse.specs.Spans.{name_and_value}
 use Rattle.http_messages.specs.declared.messages.Message.{Message}
 use Rattle.http_messages.specs.declared.messages.Field.{Field}
-use Rattle.http_model.specs.Heads.{head_limit}
+use Rattle.http_messages.specs.declared.limits.TheConstants.{HEAD_LIMIT}
 
 -- a field's name and value
 abbrev pub field_parts : Field → List ℕ × List ℕ
@@ -20,4 +20,4 @@ pub record IsMessageHead (m : Message) (h : RequestHead) : Type 0 where
 
 -- the head is within the limit, empty lines before it included (of this project)
 abbrev pub FitsLimit : RequestHead → Type 0
-FitsLimit h = length (print_request h) ≤ head_limit
+FitsLimit h = length (print_request h) ≤ HEAD_LIMIT

@@ -2,18 +2,19 @@
 use Rattle.std.specs.Prelude.{◌≡◌, ◌⊎◌, ℕ, ◌+◌, ◌≤◌, List, [], ◌∷◌, length, Ok, IsTrue, IsFalse}
 use Rattle.httparse.specs.Grammar.{RequestHead}
 use Rattle.http_messages.specs.declared.messages.Message.{Message}
-use Rattle.http_model.specs.Heads.{ReadsHead, field_limit}
+use Rattle.http_model.specs.Heads.{ReadsHead}
 use Rattle.http_model.specs.Messages.{IsMessageHead, FitsLimit}
 use Rattle.http_messages.specs.declared.framings.Framing.{Framing}
 use Rattle.http_model.specs.Framings.{framing_of, closes}
 use Rattle.http_model.specs.Bodies.{ReadsBody}
+use Rattle.http_messages.specs.declared.limits.TheConstants.{FIELD_LIMIT}
 
 -- bytes are a head within the limits, with the parts of m, and then rest (RFC 9112, section 2.1)
 pub record ReadsWholeHead (bytes : List ℕ) (m : Message) (rest : List ℕ) : Type 0 where
   pub head : RequestHead
   pub reads : ReadsHead bytes head rest
   pub fits : FitsLimit head
-  pub fields : length head.fields ≤ field_limit
+  pub fields : length head.fields ≤ FIELD_LIMIT
   pub message : IsMessageHead m head
 
 -- bytes are the message m, and then rest (RFC 9112, sections 2.1 and 6)

@@ -6,11 +6,12 @@ use Rattle.http_messages.specs.declared.framings.Framing.{Framing}
 use Rattle.http_messages.specs.declared.framings.Framing.TheVariants.{Chunked}
 use Rattle.http_messages.specs.declared.framings.RefusedRest.{RefusedRest}
 use Rattle.http_messages.specs.declared.framings.RefusedRest.TheVariants.{Hopeless, TooLarge, TooMany, Head, BadChunk, LargeBody}
-use Rattle.http_model.specs.Heads.{ReadsHead, NeverHasHead, IsOpen, front, head_limit, field_limit, IsEmptyLines}
+use Rattle.http_model.specs.Heads.{ReadsHead, NeverHasHead, IsOpen, front, IsEmptyLines}
 use Rattle.http_model.specs.Messages.{FitsLimit}
 use Rattle.http_model.specs.Framings.{framing_of, interim_of, is_head}
 use Rattle.http_model.specs.Bodies.{IsBadChunked, IsLargeChunked, IsCutBody}
 use Rattle.http_model.specs.Requests.{ReadsWholeHead, ReadsMessage}
+use Rattle.http_messages.specs.declared.limits.TheConstants.{FIELD_LIMIT, HEAD_LIMIT}
 
 -- a head that breaks no rule begins the rest, and then comes what should be its body (RFC 9112, section 6)
 pub record Accepts (rest : List ℕ) (m : Message) (framing : Framing) (after : List ℕ) : Type 0 where
@@ -19,14 +20,14 @@ pub record Accepts (rest : List ℕ) (m : Message) (framing : Framing) (after : 
 
 -- nothing, or empty lines (RFC 9112, section 2.2)
 abbrev pub IsBetween : List ℕ → Type 0
-IsBetween rest = (length rest < head_limit) × IsEmptyLines rest
+IsBetween rest = (length rest < HEAD_LIMIT) × IsEmptyLines rest
 
 -- the rest is refused for that reason, behind that interim text, and its head is one of a HEAD request or not (of this project)
 abbrev pub IsRefused : List ℕ → RefusedRest → List ℕ → Bool → Type 0
 IsRefused rest Hopeless early head_only = NeverHasHead (front rest) × (early ≡ []) × (head_only ≡ false)
-IsRefused rest TooLarge early head_only = (head_limit ≤ length rest) × IsOpen (front rest) × (early ≡ []) × (head_only ≡ false)
+IsRefused rest TooLarge early head_only = (HEAD_LIMIT ≤ length rest) × IsOpen (front rest) × (early ≡ []) × (head_only ≡ false)
 IsRefused rest TooMany early head_only =
-    (h : RequestHead) × (after : List ℕ) × ReadsHead rest h after × FitsLimit h × (field_limit < length h.fields) × (early ≡ []) × (head_only ≡ false)
+    (h : RequestHead) × (after : List ℕ) × ReadsHead rest h after × FitsLimit h × (FIELD_LIMIT < length h.fields) × (early ≡ []) × (head_only ≡ false)
 IsRefused rest (Head fault) early head_only =
     (m : Message) × (after : List ℕ) × ReadsWholeHead rest m after × (framing_of m ≡ Err fault) × (early ≡ []) × (head_only ≡ is_head m)
 IsRefused rest BadChunk early head_only =
@@ -38,7 +39,7 @@ IsRefused rest LargeBody early head_only =
 -- the rest ends inside a message, behind that interim text (RFC 9112, section 8)
 abbrev pub IsCut : List ℕ → List ℕ → Type 0
 IsCut rest early =
-    ((length rest < head_limit) × IsOpen rest × ¬ (IsEmptyLines rest) × (early ≡ []))
+    ((length rest < HEAD_LIMIT) × IsOpen rest × ¬ (IsEmptyLines rest) × (early ≡ []))
     ⊎ ((m : Message) × (after : List ℕ) × (framing : Framing) × Accepts rest m framing after × IsCutBody framing after × (early ≡ interim_of m))
 
 -- the interim text of what begins the rest, or nothing (of this project)
@@ -56,9 +57,9 @@ pub data HeadKind : Type 0 where
 -- the rest begins so
 abbrev pub IsHeadKind : List ℕ → HeadKind → Type 0
 IsHeadKind rest head_never = NeverHasHead (front rest)
-IsHeadKind rest head_large = (head_limit ≤ length rest) × IsOpen (front rest)
-IsHeadKind rest head_many = (h : RequestHead) × (after : List ℕ) × ReadsHead rest h after × FitsLimit h × (field_limit < length h.fields)
-IsHeadKind rest head_open = (length rest < head_limit) × IsOpen rest
+IsHeadKind rest head_large = (HEAD_LIMIT ≤ length rest) × IsOpen (front rest)
+IsHeadKind rest head_many = (h : RequestHead) × (after : List ℕ) × ReadsHead rest h after × FitsLimit h × (FIELD_LIMIT < length h.fields)
+IsHeadKind rest head_open = (length rest < HEAD_LIMIT) × IsOpen rest
 IsHeadKind rest (head_whole m after) = ReadsWholeHead rest m after
 
 -- what a rest is: between messages, a part of a message, refused, or begun by a message

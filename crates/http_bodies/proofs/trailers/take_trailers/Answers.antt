@@ -1,9 +1,10 @@
 use Rattle.std.proofs.Common.{◌<◌, ◌∙◌, ap, sym, subst, length, arith, inl}
-use Rattle.http_model.specs.Bodies.{trailer_limit, IsBadTrailers}
+use Rattle.http_model.specs.Bodies.{IsBadTrailers}
 use Rattle.http_framing.specs.FillLaws.{adds_on}
 use Rattle.http_framing.specs.Sections.{IsOpenSection}
 use Rattle.http_bodies.proofs.LineFronts.{open_section}
 use Rattle.http_bodies.proofs.trailers.take_trailers.Goals as goal
+use Rattle.http_messages.specs.declared.limits.TheConstants.{TRAILER_LIMIT}
 
 pub returns-in-Never-clause-trailers : goal.returns-in-Never-clause-trailers
 returns-in-Never-clause-trailers g c =
@@ -22,7 +23,7 @@ pub returns-in-End-clause-trailers : goal.returns-in-End-clause-trailers
 returns-in-End-clause-trailers g c =
     let end = c.in-End.ensures.end in
     let same = end.0 ∙ c.judge_section.ensures.kept in
-    let short : length c.reading.buffer < trailer_limit = omega (arith, ap length c.as_slice.ensures, ap length c.judge_section.ensures.kept, c.if-as_slice-ge16384.false) in
+    let short : length c.reading.buffer < TRAILER_LIMIT = omega (arith, ap length c.as_slice.ensures, ap length c.judge_section.ensures.kept, c.if-as_slice-ge16384.false) in
     (omega (arith, ap length same, short), subst IsOpenSection (sym same) (open_section _ c.in-Open.ensures.judged short), end.1)
 
 pub returns-in-Failed-clause-adds : goal.returns-in-Failed-clause-adds
@@ -32,5 +33,5 @@ pub returns-in-Failed-clause-trailers : goal.returns-in-Failed-clause-trailers
 returns-in-Failed-clause-trailers g c =
     let end = c.in-Failed.ensures.end in
     let same = end.0 ∙ c.judge_section.ensures.kept in
-    let short : length c.reading.buffer < trailer_limit = omega (arith, ap length c.as_slice.ensures, ap length c.judge_section.ensures.kept, c.if-as_slice-ge16384.false) in
+    let short : length c.reading.buffer < TRAILER_LIMIT = omega (arith, ap length c.as_slice.ensures, ap length c.judge_section.ensures.kept, c.if-as_slice-ge16384.false) in
     (omega (arith, ap length same, short), subst IsOpenSection (sym same) (open_section _ c.in-Open.ensures.judged short))

@@ -1,8 +1,9 @@
 use Rattle.std.proofs.Common.{◌<◌, ◌∙◌, ap, sym, refl, subst, length, arith}
-use Rattle.http_model.specs.Heads.{head_limit, IsOpen, IsEmptyLines}
+use Rattle.http_model.specs.Heads.{IsOpen, IsEmptyLines}
 use Rattle.http_framing.specs.FillLaws.{adds_on}
 use Rattle.http_framing.proofs.Takes.{takes_of, open_short}
 use Rattle.http_framing.proofs.heads.take_front.Goals as goal
+use Rattle.http_messages.specs.declared.limits.TheConstants.{HEAD_LIMIT}
 
 pub returns-in-Never-clause-takes : goal.returns-in-Never-clause-takes
 returns-in-Never-clause-takes g c =
@@ -29,7 +30,7 @@ returns-then-is_empty_lines-clause-takes g c =
 pub returns-in-End-clause-takes : goal.returns-in-End-clause-takes
 returns-in-End-clause-takes g c =
     let end = c.in-End.ensures.end in
-    let short : length c.reading.buffer < head_limit = omega (arith, ap length c.as_slice.ensures, ap length c.judge.ensures.kept, c.if-as_slice-ge16384.false) in
+    let short : length c.reading.buffer < HEAD_LIMIT = omega (arith, ap length c.as_slice.ensures, ap length c.judge.ensures.kept, c.if-as_slice-ge16384.false) in
     takes_of _ _ _ _ _ _ _ _ (adds_on _ _ _ _ _ _ _ _ _ _ c.reading.invariant.adds c.judge.ensures.kept c.fill.ensures.adds) (
       refl,
       end.1,
@@ -41,7 +42,7 @@ returns-in-End-clause-takes g c =
 pub returns-in-Failed-clause-takes : goal.returns-in-Failed-clause-takes
 returns-in-Failed-clause-takes g c =
     let end = c.in-Failed.ensures.end in
-    let short : length c.reading.buffer < head_limit = omega (arith, ap length c.as_slice.ensures, ap length c.judge.ensures.kept, c.if-as_slice-ge16384.false) in
+    let short : length c.reading.buffer < HEAD_LIMIT = omega (arith, ap length c.as_slice.ensures, ap length c.judge.ensures.kept, c.if-as_slice-ge16384.false) in
     takes_of _ _ _ _ _ _ _ _ (adds_on _ _ _ _ _ _ _ _ _ _ c.reading.invariant.adds c.judge.ensures.kept c.fill.ensures.adds) (
       refl,
       omega (arith, ap length end.0, ap length c.judge.ensures.kept, short),
