@@ -2,6 +2,8 @@
 use Rattle.std.proofs.Common.{◌≡◌, ℕ, List, ◌++◌, sym, ap, subst, ◌∙◌, append_assoc, append-nil}
 use Rattle.std.specs.declared.option.Option.{Option}
 use Rattle.std.specs.Prelude.{IfSome, None, Some}
+use Rattle.std.specs.Io.KnownBytes.{Consumes}
+use Rattle.outer_ends.specs.Told.{SourceTold}
 use Rattle.http_messages.specs.declared.framings.Framing.{Framing}
 use Rattle.http_model.specs.Laws.{ReadStays}
 use Rattle.http_model.specs.Bodies.{IsCutBody}
@@ -19,14 +21,14 @@ rest_of_seen stays framing seen y now found.TooLarge v = (v.0, stays.large_body 
 rest_of_seen stays framing seen y now found.ReadFault v = tt
 rest_of_seen stays framing seen y now found.NoMemory v = tt
 
-rest_of_told : ReadStays → (framing : Framing) (old now x : List ℕ) (t u m : Option (List ℕ)) (end : BodyEnd) → TakesBody framing old now t u (Some x) m end
-    → BodyOfRest framing (old ++ x) now m end
-rest_of_told stays framing old now x t u None end h = absurd h.left_less
-rest_of_told stays framing old now x t u (Some y) end h =
-    subst (λ (l : List ℕ). BodyOfRest framing l now (Some y) end) (append_assoc old h.bytes y ∙ ap (λ (l : List ℕ). old ++ l) (sym h.left_less))
-    (rest_of_seen stays framing (old ++ h.bytes) y now end h.verdict)
+rest_of_told : ReadStays → (framing : Framing) (old now bytes : List ℕ) (left left_now : Option (List ℕ)) (end : BodyEnd) → Consumes left left_now bytes
+    → BodyOn framing (old ++ bytes) left_now now end → IfSome left (λ all. BodyOfRest framing (old ++ all) now left_now end)
+rest_of_told stays framing old now bytes None left_now end less v = tt
+rest_of_told stays framing old now bytes (Some x) None end less v = absurd less
+rest_of_told stays framing old now bytes (Some x) (Some y) end less v =
+    subst (λ (l : List ℕ). BodyOfRest framing l now (Some y) end) (append_assoc old bytes y ∙ ap (λ (l : List ℕ). old ++ l) (sym less))
+    (rest_of_seen stays framing (old ++ bytes) y now end v)
 
-pub rest_of : ReadStays → (framing : Framing) (old now : List ℕ) (t u l m : Option (List ℕ)) (end : BodyEnd) → TakesBody framing old now t u l m end
-    → IfSome l (λ left. BodyOfRest framing (old ++ left) now m end)
-rest_of stays framing old now t u None m end h = tt
-rest_of stays framing old now t u (Some x) m end h = rest_of_told stays framing old now x t u m end h
+pub rest_of : ReadStays → (framing : Framing) (old now : List ℕ) (t u : SourceTold) (end : BodyEnd) → TakesBody framing old now t u end
+    → IfSome t.left (λ left. BodyOfRest framing (old ++ left) now u.left end)
+rest_of stays framing old now t u end h = rest_of_told stays framing old now h.bytes t.left u.left end h.left_less h.verdict

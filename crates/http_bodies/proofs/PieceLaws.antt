@@ -2,7 +2,7 @@
 use Rattle.std.proofs.Common.{◌≡◌, ℕ, ◌+◌, ◌*◌, ◌<◌, ◌≤◌, List, [], ◌∷◌, ◌++◌, length, drop, refl, sym, ap, subst, ◌∙◌, arith, append_assoc, append-nil, length-append, None}
 use Rattle.std.proofs.lemmas.Grind.{flat_map-append}
 use Rattle.std.proofs.lemmas.List.Elements.{All-append, All-nil, All-cons}
-use Rattle.std.specs.declared.option.Option.{Option}
+use Rattle.outer_ends.specs.Told.{SourceTold}
 use Rattle.httparse.specs.Grammar.{ChunkLine, print_chunk_line, chunk_size}
 use Rattle.httparse.specs.Ascii.{crlf_bytes}
 use Rattle.http_messages.specs.declared.framings.Framing.TheVariants.{Chunked}
@@ -22,35 +22,35 @@ use Rattle.http_messages.specs.declared.limits.TheConstants.{BODY_LIMIT}
 -- ---- what was seen
 
 -- the bytes x stood before those of the buffer
-pub piece_of : (x old new now body body_now : List ℕ) (t u l m : Option (List ℕ)) (e : PieceEnd) → Adds old new t u l m → PieceOn body body_now (x ++ new) m now e
-    → TakesPiece body body_now (x ++ old) now t u l m e
-piece_of x old new now body body_now t u l m e p v =
-    let a = adds_behind x old new t u l m p in
+pub piece_of : (x old new now body body_now : List ℕ) (t u : SourceTold) (e : PieceEnd) → Adds old new t u → PieceOn body body_now (x ++ new) u.left now e
+    → TakesPiece body body_now (x ++ old) now t u e
+piece_of x old new now body body_now t u e p v =
+    let a = adds_behind x old new t u p in
     record {
       bytes = a.bytes;
       taken_more = a.taken_more;
       left_less = a.left_less;
-      verdict = subst (λ (s : List ℕ). PieceOn body body_now s m now e) a.kept v;
+      verdict = subst (λ (s : List ℕ). PieceOn body body_now s u.left now e) a.kept v;
     }
 
 -- the bytes were seen by two calls
-pub piece_then : (old new now body body_now : List ℕ) (t u v l m n : Option (List ℕ)) (e : PieceEnd) → Adds old new t u l m → TakesPiece body body_now new now u v m n e
-    → TakesPiece body body_now old now t v l n e
-piece_then old new now body body_now t u v l m n e p q =
-    let rest : Adds new (new ++ q.bytes) u v m n = record { bytes = q.bytes; kept = refl; taken_more = q.taken_more; left_less = q.left_less } in
-    let a = adds_then old new (new ++ q.bytes) t u v l m n p rest in
+pub piece_then : (old new now body body_now : List ℕ) (t u v : SourceTold) (e : PieceEnd) → Adds old new t u → TakesPiece body body_now new now u v e
+    → TakesPiece body body_now old now t v e
+piece_then old new now body body_now t u v e p q =
+    let rest : Adds new (new ++ q.bytes) u v = record { bytes = q.bytes; kept = refl; taken_more = q.taken_more; left_less = q.left_less } in
+    let a = adds_then old new (new ++ q.bytes) t u v p rest in
     record {
       bytes = a.bytes;
       taken_more = a.taken_more;
       left_less = a.left_less;
-      verdict = subst (λ (s : List ℕ). PieceOn body body_now s n now e) a.kept q.verdict;
+      verdict = subst (λ (s : List ℕ). PieceOn body body_now s v.left now e) a.kept q.verdict;
     }
 
 -- the same where the first bytes stand before those of the second call's buffer
-pub piece_behind : (old new x behind now body body_now : List ℕ) (t u v l m n : Option (List ℕ)) (e : PieceEnd) → Adds old new t u l m → x ++ behind ≡ new
-    → TakesPiece body body_now (x ++ behind) now u v m n e → TakesPiece body body_now old now t v l n e
-piece_behind old new x behind now body body_now t u v l m n e p same q =
-    piece_then old (x ++ behind) now body body_now t u v l m n e (subst (λ (s : List ℕ). Adds old s t u l m) (sym same) p) q
+pub piece_behind : (old new x behind now body body_now : List ℕ) (t u v : SourceTold) (e : PieceEnd) → Adds old new t u → x ++ behind ≡ new
+    → TakesPiece body body_now (x ++ behind) now u v e → TakesPiece body body_now old now t v e
+piece_behind old new x behind now body body_now t u v e p same q =
+    piece_then old (x ++ behind) now body body_now t u v e (subst (λ (s : List ℕ). Adds old s t u) (sym same) p) q
 
 pub line_reads : (len size : ℕ) (line : ChunkLine) (rest : List ℕ) → IsLineOf len size line → TakesChunkLine (print_chunk_line line ++ rest) line rest
 line_reads len size line rest h = record { reads = (h.good, refl); fits = h.fits }
@@ -110,8 +110,8 @@ line_of buffer len size h = record { good = h.takes.reads.0; fits = h.takes.fits
 
 -- ---- chunks one after another
 
-pub chunks_none : (old : List ℕ) (t l : Option (List ℕ)) → ChunksRead old old [] 0 t t l l
-chunks_none old t l = record { chunks = []; each = All-nil IsChunk; content = refl; place_is = refl; adds = adds_none old t l }
+pub chunks_none : (old : List ℕ) (t : SourceTold) → ChunksRead old old [] 0 t t
+chunks_none old t = record { chunks = []; each = All-nil IsChunk; content = refl; place_is = refl; adds = adds_none old t }
 
 one_content : (chunks : List Chunk) (c : Chunk) → content_of (chunks ++ c ∷ []) ≡ content_of chunks ++ c.content
 one_content chunks c =
@@ -120,11 +120,11 @@ one_content chunks c =
 one_text : (chunks : List Chunk) (c : Chunk) → print_chunks (chunks ++ c ∷ []) ≡ print_chunks chunks ++ print_chunk c
 one_text chunks c = flat_map-append print_chunk chunks (c ∷ []) ∙ ap (λ (l : List ℕ). print_chunks chunks ++ l) (append-nil (print_chunk c))
 
-pub chunks_on : (old buffer now body body_now : List ℕ) (place n : ℕ) (t u v l m k : Option (List ℕ)) → ChunksRead old buffer body place t u l m
-    → TakesPiece body body_now buffer now u v m k (end.Chunk n) → ChunksRead old now body_now (place + n) t v l k
-chunks_on old buffer now body body_now place n t u v l m k p q =
+pub chunks_on : (old buffer now body body_now : List ℕ) (place n : ℕ) (t u v : SourceTold) → ChunksRead old buffer body place t u
+    → TakesPiece body body_now buffer now u v (end.Chunk n) → ChunksRead old now body_now (place + n) t v
+chunks_on old buffer now body body_now place n t u v p q =
     let c = q.verdict.0 in
-    let one : Adds buffer (print_chunk c ++ now) u v m k = record { bytes = q.bytes; kept = sym q.verdict.4; taken_more = q.taken_more; left_less = q.left_less } in
+    let one : Adds buffer (print_chunk c ++ now) u v = record { bytes = q.bytes; kept = sym q.verdict.4; taken_more = q.taken_more; left_less = q.left_less } in
     let text : print_chunks p.chunks ++ (print_chunk c ++ now) ≡ print_chunks (p.chunks ++ c ∷ []) ++ now =
     sym (append_assoc (print_chunks p.chunks) (print_chunk c) now) ∙ ap (λ (s : List ℕ). s ++ now) (sym (one_text p.chunks c)) in
     record {
@@ -132,9 +132,9 @@ chunks_on old buffer now body body_now place n t u v l m k p q =
       each = All-append IsChunk p.chunks (c ∷ []) p.each (All-cons IsChunk c [] q.verdict.1 (All-nil IsChunk));
       content = q.verdict.3 ∙ ap (λ (s : List ℕ). s ++ c.content) p.content ∙ sym (one_content p.chunks c);
       place_is = omega (arith, p.place_is, q.verdict.5, ap length (one_text p.chunks c), length-append (print_chunks p.chunks) (print_chunk c));
-      adds = subst (λ (s : List ℕ). Adds old s t v l k) text (
-          adds_then old (print_chunks p.chunks ++ buffer) (print_chunks p.chunks ++ (print_chunk c ++ now)) t u v l m k p.adds
-          (adds_behind (print_chunks p.chunks) buffer (print_chunk c ++ now) u v m k one)
+      adds = subst (λ (s : List ℕ). Adds old s t v) text (
+          adds_then old (print_chunks p.chunks ++ buffer) (print_chunks p.chunks ++ (print_chunk c ++ now)) t u v p.adds
+          (adds_behind (print_chunks p.chunks) buffer (print_chunk c ++ now) u v one)
           );
     }
 
@@ -152,36 +152,36 @@ chunk_size_in body body_now seen now n v =
 -- ---- the whole body
 
 -- all that was seen: the chunks, and behind them what the piece has
-pub seen_of : (old buffer now body body_now : List ℕ) (place : ℕ) (t u v l m k : Option (List ℕ)) (e : PieceEnd) (p : ChunksRead old buffer body place t u l m)
-    (q : TakesPiece body body_now buffer now u v m k e) → Adds old (print_chunks p.chunks ++ (buffer ++ q.bytes)) t v l k
-seen_of old buffer now body body_now place t u v l m k e p q =
-    let one : Adds buffer (buffer ++ q.bytes) u v m k = record { bytes = q.bytes; kept = refl; taken_more = q.taken_more; left_less = q.left_less } in
-    adds_then old (print_chunks p.chunks ++ buffer) (print_chunks p.chunks ++ (buffer ++ q.bytes)) t u v l m k p.adds
-    (adds_behind (print_chunks p.chunks) buffer (buffer ++ q.bytes) u v m k one)
+pub seen_of : (old buffer now body body_now : List ℕ) (place : ℕ) (t u v : SourceTold) (e : PieceEnd) (p : ChunksRead old buffer body place t u)
+    (q : TakesPiece body body_now buffer now u v e) → Adds old (print_chunks p.chunks ++ (buffer ++ q.bytes)) t v
+seen_of old buffer now body body_now place t u v e p q =
+    let one : Adds buffer (buffer ++ q.bytes) u v = record { bytes = q.bytes; kept = refl; taken_more = q.taken_more; left_less = q.left_less } in
+    adds_then old (print_chunks p.chunks ++ buffer) (print_chunks p.chunks ++ (buffer ++ q.bytes)) t u v p.adds
+    (adds_behind (print_chunks p.chunks) buffer (buffer ++ q.bytes) u v one)
 
-pub so_far_of : (old buffer body : List ℕ) (place : ℕ) (t u l m : Option (List ℕ)) (p : ChunksRead old buffer body place t u l m) (left : List ℕ) → length body ≤ BODY_LIMIT
+pub so_far_of : (old buffer body : List ℕ) (place : ℕ) (t u : SourceTold) (p : ChunksRead old buffer body place t u) (left : List ℕ) → length body ≤ BODY_LIMIT
     → ChunksSoFar (print_chunks p.chunks ++ left) p.chunks left
-so_far_of old buffer body place t u l m p left within = record { each = p.each; within = omega (arith, ap length p.content, within); text = refl }
+so_far_of old buffer body place t u p left within = record { each = p.each; within = omega (arith, ap length p.content, within); text = refl }
 
-body_of : (old buffer now body body_now : List ℕ) (place : ℕ) (t u v l m k : Option (List ℕ)) (e : PieceEnd) (end : BodyEnd) (p : ChunksRead old buffer body place t u l m)
-    (q : TakesPiece body body_now buffer now u v m k e) → BodyOn Chunked (print_chunks p.chunks ++ (buffer ++ q.bytes)) k now end → TakesBody Chunked old now t v l k end
-body_of old buffer now body body_now place t u v l m k e end p q verdict =
-    let a = seen_of old buffer now body body_now place t u v l m k e p q in
+body_of : (old buffer now body body_now : List ℕ) (place : ℕ) (t u v : SourceTold) (e : PieceEnd) (end : BodyEnd) (p : ChunksRead old buffer body place t u)
+    (q : TakesPiece body body_now buffer now u v e) → BodyOn Chunked (print_chunks p.chunks ++ (buffer ++ q.bytes)) v.left now end → TakesBody Chunked old now t v end
+body_of old buffer now body body_now place t u v e end p q verdict =
+    let a = seen_of old buffer now body body_now place t u v e p q in
     record {
       bytes = a.bytes;
       taken_more = a.taken_more;
       left_less = a.left_less;
-      verdict = subst (λ (s : List ℕ). BodyOn Chunked s k now end) a.kept verdict;
+      verdict = subst (λ (s : List ℕ). BodyOn Chunked s v.left now end) a.kept verdict;
     }
 
-pub body_last : (old buffer now body body_now whole : List ℕ) (place : ℕ) (t u v l m k : Option (List ℕ)) → length body ≤ BODY_LIMIT → whole ≡ body_now
-    → ChunksRead old buffer body place t u l m → TakesPiece body body_now buffer now u v m k end.Last → TakesBody Chunked old now t v l k (found.Body whole)
-body_last old buffer now body body_now whole place t u v l m k within same p q =
-    body_of old buffer now body body_now place t u v l m k end.Last (found.Body whole) p q
+pub body_last : (old buffer now body body_now whole : List ℕ) (place : ℕ) (t u v : SourceTold) → length body ≤ BODY_LIMIT → whole ≡ body_now
+    → ChunksRead old buffer body place t u → TakesPiece body body_now buffer now u v end.Last → TakesBody Chunked old now t v (found.Body whole)
+body_last old buffer now body body_now whole place t u v within same p q =
+    body_of old buffer now body body_now place t u v end.Last (found.Body whole) p q
     (record {
       chunks = p.chunks;
       left = buffer ++ q.bytes;
-      so_far = so_far_of old buffer body place t u l m p (buffer ++ q.bytes) within;
+      so_far = so_far_of old buffer body place t u p (buffer ++ q.bytes) within;
       last = q.verdict.0;
       middle = q.verdict.1;
       line = q.verdict.2;
@@ -190,51 +190,51 @@ body_last old buffer now body body_now whole place t u v l m k within same p q =
       same = same ∙ q.verdict.5 ∙ p.content;
     })
 
-cut_of : (old buffer body : List ℕ) (place : ℕ) (t u l m : Option (List ℕ)) (p : ChunksRead old buffer body place t u l m) (left : List ℕ) → length body ≤ BODY_LIMIT
+cut_of : (old buffer body : List ℕ) (place : ℕ) (t u : SourceTold) (p : ChunksRead old buffer body place t u) (left : List ℕ) → length body ≤ BODY_LIMIT
     → IsCutPiece (length body) left → IsCutChunked (print_chunks p.chunks ++ left)
-cut_of old buffer body place t u l m p left within cut = record {
+cut_of old buffer body place t u p left within cut = record {
   chunks = p.chunks;
   left = left;
-  so_far = so_far_of old buffer body place t u l m p left within;
+  so_far = so_far_of old buffer body place t u p left within;
   piece = subst (λ (b : List ℕ). IsCutPiece (length b) left) p.content cut;
 }
 
-pub body_cut : (old buffer now body body_now : List ℕ) (place : ℕ) (t u v l m k : Option (List ℕ)) → length body ≤ BODY_LIMIT
-    → ChunksRead old buffer body place t u l m → TakesPiece body body_now buffer now u v m k end.Cut → TakesBody Chunked old now t v l k found.CutShort
-body_cut old buffer now body body_now place t u v l m k within p q =
-    body_of old buffer now body body_now place t u v l m k end.Cut found.CutShort p q
-    (q.verdict.0, cut_of old buffer body place t u l m p (buffer ++ q.bytes) within q.verdict.1)
+pub body_cut : (old buffer now body body_now : List ℕ) (place : ℕ) (t u v : SourceTold) → length body ≤ BODY_LIMIT
+    → ChunksRead old buffer body place t u → TakesPiece body body_now buffer now u v end.Cut → TakesBody Chunked old now t v found.CutShort
+body_cut old buffer now body body_now place t u v within p q =
+    body_of old buffer now body body_now place t u v end.Cut found.CutShort p q
+    (q.verdict.0, cut_of old buffer body place t u p (buffer ++ q.bytes) within q.verdict.1)
 
-pub body_fault : (old buffer now body body_now : List ℕ) (place : ℕ) (t u v l m k : Option (List ℕ)) → length body ≤ BODY_LIMIT
-    → ChunksRead old buffer body place t u l m → TakesPiece body body_now buffer now u v m k end.Fault → TakesBody Chunked old now t v l k found.ReadFault
-body_fault old buffer now body body_now place t u v l m k within p q =
-    body_of old buffer now body body_now place t u v l m k end.Fault found.ReadFault p q
-    (cut_of old buffer body place t u l m p (buffer ++ q.bytes) within q.verdict)
+pub body_fault : (old buffer now body body_now : List ℕ) (place : ℕ) (t u v : SourceTold) → length body ≤ BODY_LIMIT
+    → ChunksRead old buffer body place t u → TakesPiece body body_now buffer now u v end.Fault → TakesBody Chunked old now t v found.ReadFault
+body_fault old buffer now body body_now place t u v within p q =
+    body_of old buffer now body body_now place t u v end.Fault found.ReadFault p q
+    (cut_of old buffer body place t u p (buffer ++ q.bytes) within q.verdict)
 
-pub body_bad : (old buffer now body body_now : List ℕ) (place on : ℕ) (t u v l m k : Option (List ℕ)) → length body ≤ BODY_LIMIT
-    → ChunksRead old buffer body place t u l m → TakesPiece body body_now buffer now u v m k (end.Bad on) → TakesBody Chunked old now t v l k (found.BadChunk (place + on))
-body_bad old buffer now body body_now place on t u v l m k within p q =
-    body_of old buffer now body body_now place t u v l m k (end.Bad on) (found.BadChunk (place + on)) p q (
+pub body_bad : (old buffer now body body_now : List ℕ) (place on : ℕ) (t u v : SourceTold) → length body ≤ BODY_LIMIT
+    → ChunksRead old buffer body place t u → TakesPiece body body_now buffer now u v (end.Bad on) → TakesBody Chunked old now t v (found.BadChunk (place + on))
+body_bad old buffer now body body_now place on t u v within p q =
+    body_of old buffer now body body_now place t u v (end.Bad on) (found.BadChunk (place + on)) p q (
       refl,
       record {
         chunks = p.chunks;
         left = buffer ++ q.bytes;
-        so_far = so_far_of old buffer body place t u l m p (buffer ++ q.bytes) within;
+        so_far = so_far_of old buffer body place t u p (buffer ++ q.bytes) within;
         on = on;
         piece = subst (λ (b : List ℕ). IsBadPiece (length b) (buffer ++ q.bytes) on) p.content q.verdict.0;
         at = ap (λ (n : ℕ). n + on) p.place_is;
       },
     )
 
-pub body_large : (old buffer now body body_now : List ℕ) (place : ℕ) (t u v l m k : Option (List ℕ)) → length body ≤ BODY_LIMIT
-    → ChunksRead old buffer body place t u l m → TakesPiece body body_now buffer now u v m k end.TooLarge → TakesBody Chunked old now t v l k found.TooLarge
-body_large old buffer now body body_now place t u v l m k within p q =
-    body_of old buffer now body body_now place t u v l m k end.TooLarge found.TooLarge p q (
+pub body_large : (old buffer now body body_now : List ℕ) (place : ℕ) (t u v : SourceTold) → length body ≤ BODY_LIMIT
+    → ChunksRead old buffer body place t u → TakesPiece body body_now buffer now u v end.TooLarge → TakesBody Chunked old now t v found.TooLarge
+body_large old buffer now body body_now place t u v within p q =
+    body_of old buffer now body body_now place t u v end.TooLarge found.TooLarge p q (
       refl,
       record {
         chunks = p.chunks;
         left = buffer ++ q.bytes;
-        so_far = so_far_of old buffer body place t u l m p (buffer ++ q.bytes) within;
+        so_far = so_far_of old buffer body place t u p (buffer ++ q.bytes) within;
         line = q.verdict.0;
         middle = q.verdict.1;
         takes = q.verdict.2;
@@ -242,7 +242,7 @@ body_large old buffer now body body_now place t u v l m k within p q =
       },
     )
 
-pub body_memory : (old buffer now body body_now : List ℕ) (place : ℕ) (t u v l m k : Option (List ℕ))
-    → ChunksRead old buffer body place t u l m → TakesPiece body body_now buffer now u v m k end.NoMemory → TakesBody Chunked old now t v l k found.NoMemory
-body_memory old buffer now body body_now place t u v l m k p q =
-    body_of old buffer now body body_now place t u v l m k end.NoMemory found.NoMemory p q tt
+pub body_memory : (old buffer now body body_now : List ℕ) (place : ℕ) (t u v : SourceTold)
+    → ChunksRead old buffer body place t u → TakesPiece body body_now buffer now u v end.NoMemory → TakesBody Chunked old now t v found.NoMemory
+body_memory old buffer now body body_now place t u v p q =
+    body_of old buffer now body body_now place t u v end.NoMemory found.NoMemory p q tt

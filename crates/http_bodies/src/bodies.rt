@@ -31,8 +31,8 @@ pub enum BodyEnd {
 // Takes a body of so many bytes.
 fn take_sized<S: Source>(alloc: Global, source: &mut S, buffer: &mut Buffer, size: usize) -> BodyEnd
     requires { size ≤ 1048576 }
-    ensures takes { TakesBody (Length size) buffer.old buffer.new (S.taken source.old) (S.taken source.new) (S.left source.old) (S.left source.new) result }
-    ensures cause { BodyCause (S.faults source.old) (S.faults source.new) result }
+    ensures takes { TakesBody (Length size) buffer.old buffer.new (S.told source.old) (S.told source.new) result }
+    ensures cause { BodyCause (S.told source.old) (S.told source.new) result }
 {
     let Ok(mut body) = Vec::with_capacity(alloc, size) else {
         return BodyEnd::NoMemory;
@@ -53,8 +53,8 @@ fn take_framed<S: Source>(
     framing: Framing,
 ) -> BodyEnd
     requires { FitsLimit framing }
-    ensures takes { TakesBody framing buffer.old buffer.new (S.taken source.old) (S.taken source.new) (S.left source.old) (S.left source.new) result }
-    ensures cause { BodyCause (S.faults source.old) (S.faults source.new) result }
+    ensures takes { TakesBody framing buffer.old buffer.new (S.told source.old) (S.told source.new) result }
+    ensures cause { BodyCause (S.told source.old) (S.told source.new) result }
 {
     match framing {
         Framing::Empty => BodyEnd::Body(Bytes::from_vec(Vec::new(alloc))),
@@ -73,11 +73,11 @@ pub fn take_body<S: Source>(
 ) -> BodyEnd
     requires { FitsLimit framing }
     // Of any source: what moved, and the answer by the bytes that were seen.
-    ensures takes { TakesBody framing buffer.old buffer.new (S.taken source.old) (S.taken source.new) (S.left source.old) (S.left source.new) result }
+    ensures takes { TakesBody framing buffer.old buffer.new (S.told source.old) (S.told source.new) result }
     // Of a source that tells what is left: the answer by all of it, however it was cut.
     ensures rest { IfSome (S.left source.old) (λ left. BodyOfRest framing (buffer.old ++ left) buffer.new (S.left source.new) result) }
     // A fault is answered exactly where the count rose.
-    ensures cause { BodyCause (S.faults source.old) (S.faults source.new) result }
+    ensures cause { BodyCause (S.told source.old) (S.told source.new) result }
 {
     read_stays();
     take_framed(alloc, source, buffer, framing)

@@ -44,8 +44,8 @@ fn take_data<S: Source>(
     requires some { 0 < size }
     requires within { length body.old.items + size ≤ 1048576 }
     requires line { len ≤ 1024 }
-    ensures takes { (line : ChunkLine) → IsLineOf len size line → TakesPiece body.old.items body.new.items (print_chunk_line line ++ buffer.old) buffer.new (S.taken source.old) (S.taken source.new) (S.left source.old) (S.left source.new) result }
-    ensures cause { PieceCause (S.faults source.old) (S.faults source.new) result }
+    ensures takes { (line : ChunkLine) → IsLineOf len size line → TakesPiece body.old.items body.new.items (print_chunk_line line ++ buffer.old) buffer.new (S.told source.old) (S.told source.new) result }
+    ensures cause { PieceCause (S.told source.old) (S.told source.new) result }
 {
     match take_part(source, buffer, body, size) {
         PartEnd::Cut => return PieceEnd::Cut,
@@ -66,8 +66,8 @@ fn take_data<S: Source>(
 
 // Takes the trailer section behind a last chunk's line of so many bytes.
 fn take_last<S: Source>(source: &mut S, buffer: &mut Buffer, len: usize) -> PieceEnd
-    ensures takes { (line : ChunkLine) (body : List ℕ) → IsLineOf len 0 line → TakesPiece body body (print_chunk_line line ++ buffer.old) buffer.new (S.taken source.old) (S.taken source.new) (S.left source.old) (S.left source.new) result }
-    ensures cause { PieceCause (S.faults source.old) (S.faults source.new) result }
+    ensures takes { (line : ChunkLine) (body : List ℕ) → IsLineOf len 0 line → TakesPiece body body (print_chunk_line line ++ buffer.old) buffer.new (S.told source.old) (S.told source.new) result }
+    ensures cause { PieceCause (S.told source.old) (S.told source.new) result }
 {
     match take_trailers(source, buffer) {
         TrailersEnd::Trailers(count) => {
@@ -90,8 +90,8 @@ fn take_behind<S: Source>(
 ) -> PieceEnd
     requires within { length body.old.items ≤ 1048576 }
     requires line { len ≤ 1024 }
-    ensures takes { (line : ChunkLine) → IsLineOf len size line → TakesPiece body.old.items body.new.items (print_chunk_line line ++ buffer.old) buffer.new (S.taken source.old) (S.taken source.new) (S.left source.old) (S.left source.new) result }
-    ensures cause { PieceCause (S.faults source.old) (S.faults source.new) result }
+    ensures takes { (line : ChunkLine) → IsLineOf len size line → TakesPiece body.old.items body.new.items (print_chunk_line line ++ buffer.old) buffer.new (S.told source.old) (S.told source.new) result }
+    ensures cause { PieceCause (S.told source.old) (S.told source.new) result }
 {
     if size == 0 {
         return take_last(source, buffer, len);
@@ -106,8 +106,8 @@ fn take_behind<S: Source>(
 // Takes a chunk, or the last chunk and the trailer section.
 fn take_piece<S: Source>(source: &mut S, buffer: &mut Buffer, body: &mut Vec<u8>) -> PieceEnd
     requires { length body.old.items ≤ 1048576 }
-    ensures takes { TakesPiece body.old.items body.new.items buffer.old buffer.new (S.taken source.old) (S.taken source.new) (S.left source.old) (S.left source.new) result }
-    ensures cause { PieceCause (S.faults source.old) (S.faults source.new) result }
+    ensures takes { TakesPiece body.old.items body.new.items buffer.old buffer.new (S.told source.old) (S.told source.new) result }
+    ensures cause { PieceCause (S.told source.old) (S.told source.new) result }
 {
     match take_line(source, buffer) {
         LineEnd::Line(len, size) => {
@@ -122,8 +122,8 @@ fn take_piece<S: Source>(source: &mut S, buffer: &mut Buffer, body: &mut Vec<u8>
 
 /// Takes a chunked body.
 pub fn take_chunked<S: Source>(alloc: Global, source: &mut S, buffer: &mut Buffer) -> BodyEnd
-    ensures takes { TakesBody Chunked buffer.old buffer.new (S.taken source.old) (S.taken source.new) (S.left source.old) (S.left source.new) result }
-    ensures cause { BodyCause (S.faults source.old) (S.faults source.new) result }
+    ensures takes { TakesBody Chunked buffer.old buffer.new (S.told source.old) (S.told source.new) result }
+    ensures cause { BodyCause (S.told source.old) (S.told source.new) result }
 {
     let mut body = Vec::new(alloc);
     let mut place = 0;

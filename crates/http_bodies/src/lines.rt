@@ -44,9 +44,9 @@ fn judge_line(bytes: &[u8]) -> Line
 
 /// Reads until a chunk line of at most 1,024 bytes is at the front of the buffer, where it stays.
 pub fn take_line<S: Source>(source: &mut S, buffer: &mut Buffer) -> LineEnd
-    ensures adds { Adds buffer.old buffer.new (S.taken source.old) (S.taken source.new) (S.left source.old) (S.left source.new) }
+    ensures adds { Adds buffer.old buffer.new (S.told source.old) (S.told source.new) }
     ensures line { LineOn buffer.new (S.left source.new) result }
-    ensures cause { LineCause (S.faults source.old) (S.faults source.new) result }
+    ensures cause { LineCause (S.told source.old) (S.told source.new) result }
 {
     'reading: loop {
         let bytes = buffer.as_slice();

@@ -38,8 +38,8 @@ pub fn take_part<S: Source>(
     size: usize,
 ) -> PartEnd
     requires { length body.old.items + size ≤ 1048576 }
-    ensures takes { TakesPart size body.old.items body.new.items buffer.old buffer.new (S.taken source.old) (S.taken source.new) (S.left source.old) (S.left source.new) result }
-    ensures cause { PartCause (S.faults source.old) (S.faults source.new) result }
+    ensures takes { TakesPart size body.old.items body.new.items buffer.old buffer.new (S.told source.old) (S.told source.new) result }
+    ensures cause { PartCause (S.told source.old) (S.told source.new) result }
 {
     let whole = body.len() + size;
     if move_some(buffer, body, whole).is_err() {

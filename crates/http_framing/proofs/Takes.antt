@@ -2,6 +2,8 @@
 use Rattle.std.proofs.Common.{◌≡◌, ℕ, ◌<◌, List, ◌++◌, length, refl, sym, ap, subst, ◌∙◌, arith, append_assoc, append-nil, take_all, length-append}
 use Rattle.std.specs.declared.option.Option.{Option}
 use Rattle.std.specs.Prelude.{IfSome, None, Some}
+use Rattle.std.specs.Io.KnownBytes.{Consumes}
+use Rattle.outer_ends.specs.Told.{SourceTold}
 use Rattle.http_model.specs.Heads.{front, IsOpen}
 use Rattle.http_model.specs.Rests.{IsBetween}
 use Rattle.http_model.specs.Laws.{ReadStays}
@@ -11,12 +13,12 @@ use Rattle.http_framing.specs.Fills.{Adds}
 use Rattle.http_framing.specs.Taken.{TakesHead, VerdictOn, HeadOfRest}
 use Rattle.http_messages.specs.declared.limits.TheConstants.{HEAD_LIMIT}
 
-pub takes_of : (old now new : List ℕ) (t u l m : Option (List ℕ)) (end : HeadEnd) → Adds old now t u l m → VerdictOn now m new end → TakesHead old new t u l m end
-takes_of old now new t u l m end p v = record {
+pub takes_of : (old now new : List ℕ) (t u : SourceTold) (end : HeadEnd) → Adds old now t u → VerdictOn now u.left new end → TakesHead old new t u end
+takes_of old now new t u end p v = record {
   bytes = p.bytes;
   taken_more = p.taken_more;
   left_less = p.left_less;
-  verdict = subst (λ (x : List ℕ). VerdictOn x m new end) p.kept v;
+  verdict = subst (λ (x : List ℕ). VerdictOn x u.left new end) p.kept v;
 }
 
 -- fewer bytes than the limit are their own front
@@ -43,12 +45,13 @@ rest_of_seen stays seen y now head.CutShort v =
 rest_of_seen stays seen y now head.ReadFault v = tt
 rest_of_seen stays seen y now head.NoMemory v = tt
 
-rest_of_told : ReadStays → (old now x : List ℕ) (t u m : Option (List ℕ)) (end : HeadEnd) → TakesHead old now t u (Some x) m end → HeadOfRest (old ++ x) now m end
-rest_of_told stays old now x t u None end h = absurd h.left_less
-rest_of_told stays old now x t u (Some y) end h =
-    subst (λ (l : List ℕ). HeadOfRest l now (Some y) end) (append_assoc old h.bytes y ∙ ap (λ (l : List ℕ). old ++ l) (sym h.left_less))
-    (rest_of_seen stays (old ++ h.bytes) y now end h.verdict)
+rest_of_told : ReadStays → (old now bytes : List ℕ) (left left_now : Option (List ℕ)) (end : HeadEnd) → Consumes left left_now bytes → VerdictOn (old ++ bytes) left_now now end
+    → IfSome left (λ all. HeadOfRest (old ++ all) now left_now end)
+rest_of_told stays old now bytes None left_now end less v = tt
+rest_of_told stays old now bytes (Some x) None end less v = absurd less
+rest_of_told stays old now bytes (Some x) (Some y) end less v =
+    subst (λ (l : List ℕ). HeadOfRest l now (Some y) end) (append_assoc old bytes y ∙ ap (λ (l : List ℕ). old ++ l) (sym less))
+    (rest_of_seen stays (old ++ bytes) y now end v)
 
-pub rest_of : ReadStays → (old now : List ℕ) (t u l m : Option (List ℕ)) (end : HeadEnd) → TakesHead old now t u l m end → IfSome l (λ left. HeadOfRest (old ++ left) now m end)
-rest_of stays old now t u None m end h = tt
-rest_of stays old now t u (Some x) m end h = rest_of_told stays old now x t u m end h
+pub rest_of : ReadStays → (old now : List ℕ) (t u : SourceTold) (end : HeadEnd) → TakesHead old now t u end → IfSome t.left (λ left. HeadOfRest (old ++ left) now u.left end)
+rest_of stays old now t u end h = rest_of_told stays old now h.bytes t.left u.left end h.left_less h.verdict

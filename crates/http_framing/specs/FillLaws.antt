@@ -1,28 +1,28 @@
 -- Laws on reads into a buffer, and on what stands at the front of its first bytes.
 use Rattle.std.proofs.Common.{◌≡◌, ℕ, List, [], ◌++◌, length, take, drop, sym, ap, subst, ◌∙◌, append_assoc, append-nil, take-append-drop}
 use Rattle.std.proofs.Math.Seq.{drop-append_seam}
-use Rattle.std.specs.declared.option.Option.{Option}
+use Rattle.outer_ends.specs.Told.{SourceTold}
 use Rattle.outer_ends.specs.StreamLaws.{appends_none, appends_then, consumes_none, consumes_then}
 use Rattle.http_framing.specs.Fills.{Adds}
 
-pub adds_none : (old : List ℕ) (t l : Option (List ℕ)) → Adds old old t t l l
-adds_none old t l = record { bytes = []; kept = sym (append-nil old); taken_more = appends_none t; left_less = consumes_none l }
+pub adds_none : (old : List ℕ) (t : SourceTold) → Adds old old t t
+adds_none old t = record { bytes = []; kept = sym (append-nil old); taken_more = appends_none t.taken; left_less = consumes_none t.left }
 
-pub adds_then : (a b c : List ℕ) (t u v l m n : Option (List ℕ)) → Adds a b t u l m → Adds b c u v m n → Adds a c t v l n
-adds_then a b c t u v l m n p q = record {
+pub adds_then : (a b c : List ℕ) (t u v : SourceTold) → Adds a b t u → Adds b c u v → Adds a c t v
+adds_then a b c t u v p q = record {
   bytes = p.bytes ++ q.bytes;
   kept = q.kept ∙ ap (λ (x : List ℕ). x ++ q.bytes) p.kept ∙ append_assoc a p.bytes q.bytes;
-  taken_more = appends_then t u v p.bytes q.bytes p.taken_more q.taken_more;
-  left_less = consumes_then l m n p.bytes q.bytes p.left_less q.left_less;
+  taken_more = appends_then t.taken u.taken v.taken p.bytes q.bytes p.taken_more q.taken_more;
+  left_less = consumes_then t.left u.left v.left p.bytes q.bytes p.left_less q.left_less;
 }
 
 -- the same where the second call began with an equal buffer
-pub adds_on : (a b c d : List ℕ) (t u v l m n : Option (List ℕ)) → Adds a b t u l m → c ≡ b → Adds c d u v m n → Adds a d t v l n
-adds_on a b c d t u v l m n p e q = adds_then a b d t u v l m n p (subst (λ (x : List ℕ). Adds x d u v m n) e q)
+pub adds_on : (a b c d : List ℕ) (t u v : SourceTold) → Adds a b t u → c ≡ b → Adds c d u v → Adds a d t v
+adds_on a b c d t u v p e q = adds_then a b d t u v p (subst (λ (x : List ℕ). Adds x d u v) e q)
 
 -- the same of a buffer whose first bytes were used
-pub adds_behind : (x b c : List ℕ) (t u l m : Option (List ℕ)) → Adds b c t u l m → Adds (x ++ b) (x ++ c) t u l m
-adds_behind x b c t u l m p = record {
+pub adds_behind : (x b c : List ℕ) (t u : SourceTold) → Adds b c t u → Adds (x ++ b) (x ++ c) t u
+adds_behind x b c t u p = record {
   bytes = p.bytes;
   kept = ap (λ (v : List ℕ). x ++ v) p.kept ∙ sym (append_assoc x b p.bytes);
   taken_more = p.taken_more;

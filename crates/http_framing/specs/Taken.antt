@@ -4,6 +4,7 @@ use Rattle.std.specs.Prelude.{◌≡◌, ◌<◌, ◌≤◌, ℕ, false, List, [
 use Rattle.std.specs.declared.option.Option.{Option}
 use Rattle.std.specs.Io.KnownBytes.{Appends, Consumes, IsAtEnd}
 use Rattle.httparse.specs.Grammar.{RequestHead}
+use Rattle.outer_ends.specs.Told.{SourceTold}
 use Rattle.outer_ends.specs.Causes.{Rose}
 use Rattle.http_messages.specs.declared.framings.RefusedRest.TheVariants.{Hopeless, TooLarge, TooMany}
 use Rattle.http_model.specs.Heads.{ReadsHead, IsOpen, NeverHasHead, front, IsEmptyLines}
@@ -28,16 +29,16 @@ VerdictOn seen left now head.ReadFault = (now ≡ seen) × (length seen < HEAD_L
 VerdictOn seen left now head.NoMemory = now ≡ seen
 
 -- what moved, and the answer
-pub record TakesHead (old now : List ℕ) (taken taken_now left left_now : Option (List ℕ)) (end : HeadEnd) : Type 0 where
+pub record TakesHead (old now : List ℕ) (before after : SourceTold) (end : HeadEnd) : Type 0 where
   pub bytes : List ℕ
-  pub taken_more : Appends taken taken_now bytes
-  pub left_less : Consumes left left_now bytes
-  pub verdict : VerdictOn (old ++ bytes) left_now now end
+  pub taken_more : Appends before.taken after.taken bytes
+  pub left_less : Consumes before.left after.left bytes
+  pub verdict : VerdictOn (old ++ bytes) after.left now end
 
 -- a fault is answered exactly where the count rose, or stands at the greatest `u64`
-abbrev pub HeadCause : ℕ → ℕ → HeadEnd → Type 0
-HeadCause before now head.ReadFault = Rose before now
-HeadCause before now end = now ≡ before
+abbrev pub HeadCause : SourceTold → SourceTold → HeadEnd → Type 0
+HeadCause before now head.ReadFault = Rose before.faults now.faults
+HeadCause before now end = now.faults ≡ before.faults
 
 -- the answer by all that stood there: what the buffer held, and what was left
 abbrev pub HeadOfRest : List ℕ → List ℕ → Option (List ℕ) → HeadEnd → Type 0

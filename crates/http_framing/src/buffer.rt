@@ -1,8 +1,7 @@
 ghost use Rattle.std.specs.Prelude.{◌≡◌, ◌<◌, ◌≤◌, ◌+◌, [], length, take, drop, IfOk};
 ghost use Rattle.std.specs.List.{slice_range};
-ghost use Rattle.std.specs.Io.KnownBytes.{ReadConsumes};
 ghost use Rattle.outer_ends.specs.Causes.{HasCause};
-ghost use Rattle.outer_ends.specs.Streams.{ReadTakes};
+ghost use Rattle.outer_ends.specs.Streams.{ReadTakes, ReadLeaves};
 ghost use Rattle.http_framing.specs.Fills.{Adds, FillIs};
 ghost use Rattle.http_framing.specs.Fronts.{JudgedIs};
 ghost use Rattle.http_framing.specs.Sections.{SectionIs};
@@ -73,9 +72,9 @@ fn read_behind<S: Source>(source: &mut S, room: &mut Vec<u8>, end: usize) -> Res
     ensures kept { take end room.new.items ≡ take end room.old.items }
     ensures len { length room.new.items ≡ length room.old.items }
     ensures bound { IfOk result (λ n. end + n ≤ length room.new.items) }
-    ensures left { ReadConsumes (S.left source.old) (S.left source.new) result (drop end room.new.items) }
-    ensures taken { ReadTakes (S.taken source.old) (S.taken source.new) result (drop end room.new.items) }
-    ensures cause { HasCause (S.faults source.old) (S.faults source.new) result }
+    ensures left { ReadLeaves (S.told source.old) (S.told source.new) result (drop end room.new.items) }
+    ensures taken { ReadTakes (S.told source.old) (S.told source.new) result (drop end room.new.items) }
+    ensures cause { HasCause (S.told source.old).faults (S.told source.new).faults result }
 {
     source.read(&mut room[end..])
 }
@@ -136,8 +135,8 @@ impl Buffer {
     /// Reads once, as much as there is room for, and adds what came.
     pub fn fill<S: Source>(&mut self, source: &mut S) -> Fill
         requires { length self.old < 32768 }
-        ensures adds { Adds self.old self.new (S.taken source.old) (S.taken source.new) (S.left source.old) (S.left source.new) }
-        ensures end { FillIs self.old self.new (S.left source.new) (S.faults source.old) (S.faults source.new) result }
+        ensures adds { Adds self.old self.new (S.told source.old) (S.told source.new) }
+        ensures end { FillIs self.old self.new (S.told source.old) (S.told source.new) result }
     {
         let (start, end) = make_room(&mut self.room, self.start, self.end);
         self.start = start;

@@ -49,8 +49,8 @@ fn is_empty_lines(bytes: &[u8]) -> bool
 
 // Reads until the front of the buffer is a whole head, or can't become one.
 fn take_front<S: Source>(alloc: Global, source: &mut S, buffer: &mut Buffer) -> HeadEnd
-    ensures takes { TakesHead buffer.old buffer.new (S.taken source.old) (S.taken source.new) (S.left source.old) (S.left source.new) result }
-    ensures cause { HeadCause (S.faults source.old) (S.faults source.new) result }
+    ensures takes { TakesHead buffer.old buffer.new (S.told source.old) (S.told source.new) result }
+    ensures cause { HeadCause (S.told source.old) (S.told source.new) result }
 {
     heads_are_decided();
     'reading: loop {
@@ -86,11 +86,11 @@ fn take_front<S: Source>(alloc: Global, source: &mut S, buffer: &mut Buffer) -> 
 /// After each answer but `Head` the buffer has all that it had and all that was read.
 pub fn take_head<S: Source>(alloc: Global, source: &mut S, buffer: &mut Buffer) -> HeadEnd
     // Of any source: what moved, and the answer by the bytes that were seen.
-    ensures takes { TakesHead buffer.old buffer.new (S.taken source.old) (S.taken source.new) (S.left source.old) (S.left source.new) result }
+    ensures takes { TakesHead buffer.old buffer.new (S.told source.old) (S.told source.new) result }
     // Of a source that tells what is left: the answer by all of it, however it was cut.
-    ensures rest { IfSome (S.left source.old) (λ left. HeadOfRest (buffer.old ++ left) buffer.new (S.left source.new) result) }
+    ensures rest { IfSome (S.told source.old).left (λ left. HeadOfRest (buffer.old ++ left) buffer.new (S.told source.new).left result) }
     // A fault is answered exactly where the count rose.
-    ensures cause { HeadCause (S.faults source.old) (S.faults source.new) result }
+    ensures cause { HeadCause (S.told source.old) (S.told source.new) result }
 {
     read_stays();
     take_front(alloc, source, buffer)

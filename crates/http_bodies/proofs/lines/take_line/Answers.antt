@@ -19,7 +19,7 @@ returns-then-bytes-ge1024-clause-line g c =
     (may.none, inr (omega (arith, ap length c.as_slice-bytes.ensures, c.if-bytes-ge1024.true)))
 
 pub returns-in-End-clause-adds : goal.returns-in-End-clause-adds
-returns-in-End-clause-adds g c = adds_then _ _ _ _ _ _ _ _ _ c.reading.invariant.adds c.fill.ensures.adds
+returns-in-End-clause-adds g c = adds_then _ _ _ _ _ _ c.reading.invariant.adds c.fill.ensures.adds
 
 pub returns-in-End-clause-line : goal.returns-in-End-clause-line
 returns-in-End-clause-line g c =
@@ -29,7 +29,7 @@ returns-in-End-clause-line g c =
     (omega (arith, ap length end.0, short), subst IsOpenLine (sym end.0) (open_line _ may short), end.1)
 
 pub returns-in-Failed-clause-adds : goal.returns-in-Failed-clause-adds
-returns-in-Failed-clause-adds g c = adds_then _ _ _ _ _ _ _ _ _ c.reading.invariant.adds c.fill.ensures.adds
+returns-in-Failed-clause-adds g c = adds_then _ _ _ _ _ _ c.reading.invariant.adds c.fill.ensures.adds
 
 pub returns-in-Failed-clause-line : goal.returns-in-Failed-clause-line
 returns-in-Failed-clause-line g c =

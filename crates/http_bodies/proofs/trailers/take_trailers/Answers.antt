@@ -12,12 +12,12 @@ returns-in-Never-clause-trailers g c =
 
 pub reading-preserved : goal.reading-preserved
 reading-preserved g c = record {
-  adds = adds_on _ _ _ _ _ _ _ _ _ _ c.reading.invariant.adds c.judge_section.ensures.kept c.fill.ensures.adds;
+  adds = adds_on _ _ _ _ _ _ _ c.reading.invariant.adds c.judge_section.ensures.kept c.fill.ensures.adds;
   count = c.in-More.ensures.end.1 ∙ c.reading.invariant.count;
 }
 
 pub returns-in-End-clause-adds : goal.returns-in-End-clause-adds
-returns-in-End-clause-adds g c = adds_on _ _ _ _ _ _ _ _ _ _ c.reading.invariant.adds c.judge_section.ensures.kept c.fill.ensures.adds
+returns-in-End-clause-adds g c = adds_on _ _ _ _ _ _ _ c.reading.invariant.adds c.judge_section.ensures.kept c.fill.ensures.adds
 
 pub returns-in-End-clause-trailers : goal.returns-in-End-clause-trailers
 returns-in-End-clause-trailers g c =
@@ -27,7 +27,7 @@ returns-in-End-clause-trailers g c =
     (omega (arith, ap length same, short), subst IsOpenSection (sym same) (open_section _ c.in-Open.ensures.judged short), end.1)
 
 pub returns-in-Failed-clause-adds : goal.returns-in-Failed-clause-adds
-returns-in-Failed-clause-adds g c = adds_on _ _ _ _ _ _ _ _ _ _ c.reading.invariant.adds c.judge_section.ensures.kept c.fill.ensures.adds
+returns-in-Failed-clause-adds g c = adds_on _ _ _ _ _ _ _ c.reading.invariant.adds c.judge_section.ensures.kept c.fill.ensures.adds
 
 pub returns-in-Failed-clause-trailers : goal.returns-in-Failed-clause-trailers
 returns-in-Failed-clause-trailers g c =

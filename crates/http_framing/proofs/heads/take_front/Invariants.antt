@@ -4,8 +4,8 @@ use Rattle.http_framing.proofs.heads.take_front.Given as goal
 
 abbrev pub invariant-reading : goal.invariant-reading
 invariant-reading g l = record {
-  adds : Adds l.fn.buffer l.buffer (g.S.Source.taken l.fn.source) (g.S.Source.taken l.source) (g.S.Source.left l.fn.source) (g.S.Source.left l.source);
-  count : g.S.Source.faults l.source ≡ g.S.Source.faults l.fn.source;
+  adds : Adds l.fn.buffer l.buffer (g.S.Source.told l.fn.source) (g.S.Source.told l.source);
+  count : (g.S.Source.told l.source).faults ≡ (g.S.Source.told l.fn.source).faults;
 }
 
 abbrev pub decreases-reading : goal.decreases-reading
