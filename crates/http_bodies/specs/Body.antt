@@ -3,6 +3,7 @@
 use Rattle.std.specs.Prelude.{◌≡◌, ◌≤◌, ℕ, List, ◌++◌, IfSome, ⊤}
 use Rattle.std.specs.declared.option.Option.{Option}
 use Rattle.std.specs.Io.KnownBytes.{Appends, Consumes, IsAtEnd}
+use Rattle.outer_ends.specs.Told.{SourceTold}
 use Rattle.outer_ends.specs.Causes.{Rose}
 use Rattle.http_messages.specs.declared.framings.Framing.{Framing}
 use Rattle.http_messages.specs.declared.framings.Framing.TheVariants.{Empty, Length, Chunked}
@@ -27,16 +28,16 @@ BodyOn framing seen left now body.ReadFault = IsCutBody framing seen
 BodyOn framing seen left now body.NoMemory = ⊤
 
 -- what moved, and the answer
-pub record TakesBody (framing : Framing) (old now : List ℕ) (taken taken_now left left_now : Option (List ℕ)) (end : BodyEnd) : Type 0 where
+pub record TakesBody (framing : Framing) (old now : List ℕ) (before after : SourceTold) (end : BodyEnd) : Type 0 where
   pub bytes : List ℕ
-  pub taken_more : Appends taken taken_now bytes
-  pub left_less : Consumes left left_now bytes
-  pub verdict : BodyOn framing (old ++ bytes) left_now now end
+  pub taken_more : Appends before.taken after.taken bytes
+  pub left_less : Consumes before.left after.left bytes
+  pub verdict : BodyOn framing (old ++ bytes) after.left now end
 
 -- a fault is answered exactly where the count rose, or stands at the greatest `u64`
-abbrev pub BodyCause : ℕ → ℕ → BodyEnd → Type 0
-BodyCause before now body.ReadFault = Rose before now
-BodyCause before now end = now ≡ before
+abbrev pub BodyCause : SourceTold → SourceTold → BodyEnd → Type 0
+BodyCause before now body.ReadFault = Rose before.faults now.faults
+BodyCause before now end = now.faults ≡ before.faults
 
 -- the answer by all that stood there: what the buffer held, and what was left
 abbrev pub BodyOfRest : Framing → List ℕ → List ℕ → Option (List ℕ) → BodyEnd → Type 0

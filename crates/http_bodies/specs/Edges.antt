@@ -2,6 +2,7 @@
 use Rattle.std.specs.Prelude.{◌≡◌, ◌⊎◌, ℕ, List, [], ◌∷◌}
 use Rattle.std.specs.declared.option.Option.{Option}
 use Rattle.std.specs.Io.KnownBytes.{IsAtEnd}
+use Rattle.outer_ends.specs.Told.{SourceTold}
 use Rattle.outer_ends.specs.Causes.{Rose}
 use Rattle.http_model.specs.Bodies.{IsBadEnd}
 use Rattle.http_bodies.specs.declared.edges.EdgeEnd.{EdgeEnd}
@@ -19,6 +20,6 @@ EdgeOn buffer left end.Cut = IsOpenEdge buffer × IsAtEnd left
 EdgeOn buffer left end.Fault = IsOpenEdge buffer
 
 -- a fault is answered exactly where the count rose, or stands at the greatest `u64`
-abbrev pub EdgeCause : ℕ → ℕ → EdgeEnd → Type 0
-EdgeCause before now end.Fault = Rose before now
-EdgeCause before now e = now ≡ before
+abbrev pub EdgeCause : SourceTold → SourceTold → EdgeEnd → Type 0
+EdgeCause before now end.Fault = Rose before.faults now.faults
+EdgeCause before now e = now.faults ≡ before.faults

@@ -3,6 +3,7 @@ use Rattle.std.specs.Prelude.{◌≡◌, ◌<◌, ◌≤◌, ℕ, List, length, 
 use Rattle.std.specs.declared.option.Option.{Option}
 use Rattle.std.specs.Io.KnownBytes.{IsAtEnd}
 use Rattle.httparse.specs.Grammar.{ChunkLine, print_chunk_line, chunk_size, HasNoChunkLine, NeverHasChunkLine, MayBecomeChunkLine}
+use Rattle.outer_ends.specs.Told.{SourceTold}
 use Rattle.outer_ends.specs.Causes.{Rose}
 use Rattle.http_model.specs.Bodies.{TakesChunkLine, IsBadLine}
 use Rattle.http_bodies.specs.declared.lines.Line.{Line}
@@ -37,6 +38,6 @@ LineOn buffer left end.Cut = (length buffer < CHUNK_LINE_LIMIT) × IsOpenLine bu
 LineOn buffer left end.Fault = (length buffer < CHUNK_LINE_LIMIT) × IsOpenLine buffer
 
 -- a fault is answered exactly where the count rose, or stands at the greatest `u64`
-abbrev pub LineCause : ℕ → ℕ → LineEnd → Type 0
-LineCause before now end.Fault = Rose before now
-LineCause before now e = now ≡ before
+abbrev pub LineCause : SourceTold → SourceTold → LineEnd → Type 0
+LineCause before now end.Fault = Rose before.faults now.faults
+LineCause before now e = now.faults ≡ before.faults

@@ -3,6 +3,7 @@ use Rattle.std.specs.Prelude.{◌≡◌, ◌+◌, ◌<◌, ◌≤◌, ℕ, List,
 use Rattle.std.specs.declared.option.Option.{Option}
 use Rattle.std.specs.Io.KnownBytes.{Appends, Consumes, IsAtEnd}
 use Rattle.httparse.specs.Grammar.{ChunkLine, IsChunkLine, print_chunk_line, chunk_size}
+use Rattle.outer_ends.specs.Told.{SourceTold}
 use Rattle.outer_ends.specs.Causes.{Rose}
 use Rattle.http_model.specs.Bodies.{TakesChunkLine, TakesTrailers, Chunk, IsChunk, print_chunk, print_chunks, content_of, IsBadPiece, IsCutPiece}
 use Rattle.http_framing.specs.Fills.{Adds}
@@ -31,21 +32,21 @@ PieceOn body body_now seen left now end.Fault = IsCutPiece (length body) seen
 PieceOn body body_now seen left now end.NoMemory = ⊤
 
 -- what moved, and the answer
-pub record TakesPiece (body body_now old now : List ℕ) (taken taken_now left left_now : Option (List ℕ)) (end : PieceEnd) : Type 0 where
+pub record TakesPiece (body body_now old now : List ℕ) (before after : SourceTold) (end : PieceEnd) : Type 0 where
   pub bytes : List ℕ
-  pub taken_more : Appends taken taken_now bytes
-  pub left_less : Consumes left left_now bytes
-  pub verdict : PieceOn body body_now (old ++ bytes) left_now now end
+  pub taken_more : Appends before.taken after.taken bytes
+  pub left_less : Consumes before.left after.left bytes
+  pub verdict : PieceOn body body_now (old ++ bytes) after.left now end
 
 -- a fault is answered exactly where the count rose, or stands at the greatest `u64`
-abbrev pub PieceCause : ℕ → ℕ → PieceEnd → Type 0
-PieceCause before now end.Fault = Rose before now
-PieceCause before now e = now ≡ before
+abbrev pub PieceCause : SourceTold → SourceTold → PieceEnd → Type 0
+PieceCause before now end.Fault = Rose before.faults now.faults
+PieceCause before now e = now.faults ≡ before.faults
 
 -- whole chunks were read, which stand so many bytes long behind what the buffer held, and the body is their data
-pub record ChunksRead (old buffer body : List ℕ) (place : ℕ) (taken taken_now left left_now : Option (List ℕ)) : Type 0 where
+pub record ChunksRead (old buffer body : List ℕ) (place : ℕ) (before now : SourceTold) : Type 0 where
   pub chunks : List Chunk
   pub each : All IsChunk chunks
   pub content : body ≡ content_of chunks
   pub place_is : place ≡ length (print_chunks chunks)
-  pub adds : Adds old (print_chunks chunks ++ buffer) taken taken_now left left_now
+  pub adds : Adds old (print_chunks chunks ++ buffer) before now

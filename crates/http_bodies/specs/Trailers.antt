@@ -2,6 +2,7 @@
 use Rattle.std.specs.Prelude.{◌≡◌, ◌<◌, ◌≤◌, ℕ, List, length, drop}
 use Rattle.std.specs.declared.option.Option.{Option}
 use Rattle.std.specs.Io.KnownBytes.{IsAtEnd}
+use Rattle.outer_ends.specs.Told.{SourceTold}
 use Rattle.outer_ends.specs.Causes.{Rose}
 use Rattle.http_model.specs.Bodies.{TakesTrailers, IsBadTrailers}
 use Rattle.http_framing.specs.Sections.{IsOpenSection}
@@ -17,6 +18,6 @@ TrailersOn buffer left end.Cut = (length buffer < TRAILER_LIMIT) × IsOpenSectio
 TrailersOn buffer left end.Fault = (length buffer < TRAILER_LIMIT) × IsOpenSection buffer
 
 -- a fault is answered exactly where the count rose, or stands at the greatest `u64`
-abbrev pub TrailersCause : ℕ → ℕ → TrailersEnd → Type 0
-TrailersCause before now end.Fault = Rose before now
-TrailersCause before now e = now ≡ before
+abbrev pub TrailersCause : SourceTold → SourceTold → TrailersEnd → Type 0
+TrailersCause before now end.Fault = Rose before.faults now.faults
+TrailersCause before now e = now.faults ≡ before.faults

@@ -75,7 +75,7 @@ pub fn take_body<S: Source>(
     // Of any source: what moved, and the answer by the bytes that were seen.
     ensures takes { TakesBody framing buffer.old buffer.new (S.told source.old) (S.told source.new) result }
     // Of a source that tells what is left: the answer by all of it, however it was cut.
-    ensures rest { IfSome (S.left source.old) (λ left. BodyOfRest framing (buffer.old ++ left) buffer.new (S.left source.new) result) }
+    ensures rest { IfSome (S.told source.old).left (λ left. BodyOfRest framing (buffer.old ++ left) buffer.new (S.told source.new).left result) }
     // A fault is answered exactly where the count rose.
     ensures cause { BodyCause (S.told source.old) (S.told source.new) result }
 {

@@ -20,7 +20,7 @@ pub enum EdgeEnd {
 /// Reads until CR LF is at the front of the buffer, where it stays.
 pub fn take_edge<S: Source>(source: &mut S, buffer: &mut Buffer) -> EdgeEnd
     ensures adds { Adds buffer.old buffer.new (S.told source.old) (S.told source.new) }
-    ensures edge { EdgeOn buffer.new (S.left source.new) result }
+    ensures edge { EdgeOn buffer.new (S.told source.new).left result }
     ensures cause { EdgeCause (S.told source.old) (S.told source.new) result }
 {
     'reading: loop {

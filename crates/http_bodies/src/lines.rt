@@ -45,7 +45,7 @@ fn judge_line(bytes: &[u8]) -> Line
 /// Reads until a chunk line of at most 1,024 bytes is at the front of the buffer, where it stays.
 pub fn take_line<S: Source>(source: &mut S, buffer: &mut Buffer) -> LineEnd
     ensures adds { Adds buffer.old buffer.new (S.told source.old) (S.told source.new) }
-    ensures line { LineOn buffer.new (S.left source.new) result }
+    ensures line { LineOn buffer.new (S.told source.new).left result }
     ensures cause { LineCause (S.told source.old) (S.told source.new) result }
 {
     'reading: loop {

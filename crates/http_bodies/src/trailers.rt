@@ -20,7 +20,7 @@ pub enum TrailersEnd {
 /// Reads until a trailer section of at most 16,384 bytes is at the front of the buffer, where it stays.
 pub fn take_trailers<S: Source>(source: &mut S, buffer: &mut Buffer) -> TrailersEnd
     ensures adds { Adds buffer.old buffer.new (S.told source.old) (S.told source.new) }
-    ensures trailers { TrailersOn buffer.new (S.left source.new) result }
+    ensures trailers { TrailersOn buffer.new (S.told source.new).left result }
     ensures cause { TrailersCause (S.told source.old) (S.told source.new) result }
 {
     'reading: loop {
