@@ -10,7 +10,8 @@ use Rattle.http_messages.specs.declared.framings.Framing.{Framing}
 use Rattle.http_messages.specs.declared.framings.HeadFault.{HeadFault}
 use Rattle.http_messages.specs.declared.framings.RefusedRest.TheVariants.{Hopeless, TooLarge, TooMany, Head, BadChunk, LargeBody}
 use Rattle.http_messages.specs.ReplyText.{interim_text}
-use Rattle.http_model.specs.Heads.{IsOpen, head_limit}
+use Rattle.http_model.specs.Heads.{IsOpen}
+use Rattle.http_messages.specs.declared.limits.TheConstants.{HEAD_LIMIT}
 use Rattle.http_model.specs.Blanks.{empty_lines}
 use Rattle.http_model.specs.Framings.{framing_of, expects_continue, interim_of, is_head}
 use Rattle.http_model.specs.Bodies.{ReadsBody}
@@ -119,7 +120,7 @@ found_cut old now t u l m w h = record {
   verdict = (inl (h.verdict.2, h.verdict.3, h.verdict.4, refl), h.verdict.1);
 }
 
-open_rest : HeadsDecided → (seen sent : List ℕ) (b : Bool) → empty_lines false seen ≡ b → length seen < head_limit → IsOpen seen → sent ≡ [] → (IsBetween seen × (sent ≡ [])) ⊎ IsCut seen sent
+open_rest : HeadsDecided → (seen sent : List ℕ) (b : Bool) → empty_lines false seen ≡ b → length seen < HEAD_LIMIT → IsOpen seen → sent ≡ [] → (IsBetween seen × (sent ≡ [])) ⊎ IsCut seen sent
 open_rest heads seen sent true e short is_open none = inl ((short, heads.blank seen e), none)
 open_rest heads seen sent false e short is_open none = inr (inl (short, is_open, heads.not_blank seen e, none))
 

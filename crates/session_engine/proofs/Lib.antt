@@ -1,3 +1,4 @@
+mod Counting
 mod Ends
 mod Found
 mod Growth

@@ -16,7 +16,7 @@ use Rattle.http_model.specs.MessageLaws.{few_more}
 use Rattle.http_model.specs.Requests.{ReadsMessage}
 use Rattle.http_model.specs.Exchanges.{Planned, planned_task, Exchange, IsAnswer, Runs, sent_for}
 use Rattle.http_model.specs.Rests.{IsEarly}
-use Rattle.http_model.specs.Served.{EndsTask, in_reply, in_last}
+use Rattle.http_model.specs.Served.{EndsTask, EndIs, in_reply, in_last}
 use Rattle.http_model.specs.Laws.{ReadStays}
 use Rattle.world_cells.specs.World.{World}
 use Rattle.task_forms.specs.declared.tasks.Task.{Task}
@@ -30,7 +30,7 @@ use Rattle.task_forms.specs.declared.tasks.Plan.{Plan}
 use Rattle.session_engine.specs.Plans.{TaskPlans, plans_of}
 use Rattle.session_engine.specs.States.{SessionState}
 use Rattle.session_engine.specs.Finishing.{Finishes, Stops}
-use Rattle.session_engine.specs.Seen.{Answers, RanOut, Settles, NextSees, Replies, Serves}
+use Rattle.session_engine.specs.Seen.{Answers, RanOut, Settles, NextSees, Replies, Serves, IfWorn}
 use Rattle.session_engine.proofs.Ends.{answers_none, answers_one, answers_then, answers_more, settles_at, settles_last, settles_then, no_exchange, served_told}
 use Rattle.session_engine.proofs.Steps.{early_of, prefix_behind, exchange_of}
 
@@ -127,6 +127,16 @@ asking_of laws plans old new mid now t u v l m n w x y task p q = record {
 
 -- ---- the ends
 
+worn_of : (plans : TaskPlans) (worn : Bool) (xs : List (Exchange Entry)) (answered : ℕ) (rest : List ℕ) (more : List Entry) (tail : List ℕ) (end : SessionEnd)
+    → EndIs plans worn xs answered rest more tail end → IfWorn end (IsTrue worn)
+worn_of plans worn xs answered rest more tail Worn h = h.3
+worn_of plans worn xs answered rest more tail Closed h = tt
+worn_of plans worn xs answered rest more tail (Refused s) h = tt
+worn_of plans worn xs answered rest more tail CutShort h = tt
+worn_of plans worn xs answered rest more tail ReadFault h = tt
+worn_of plans worn xs answered rest more tail WriteFault h = tt
+worn_of plans worn xs answered rest more tail NoMemory h = tt
+
 -- an end behind what was answered
 pub serves_of : ReadStays → (plans : TaskPlans) (stands : List Entry → List Entry → Type 0) (first : ℕ) (seen mine others : List Entry) (entries : List Entry)
     (t u l m w x : Option (List ℕ)) (bytes out : List ℕ) (k : ℕ) (worn : Bool) (end : SessionEnd)
@@ -138,6 +148,7 @@ serves_of laws plans stands first seen mine others entries t u l m w x bytes out
   stood = stood;
   worn = worn;
   wearing = at_last;
+  ends_worn = worn_of plans worn h.served.exchanges k h.served.rest h.served.more h.served.tail end h.served.ends;
   bytes = bytes;
   taken_more = taken;
   left_less = left;

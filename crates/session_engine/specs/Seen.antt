@@ -11,7 +11,7 @@ use Rattle.http_messages.specs.declared.framings.Framing.{Framing}
 use Rattle.http_messages.specs.declared.framings.Framing.TheVariants.{Chunked}
 use Rattle.http_messages.specs.declared.framings.RefusedRest.TheVariants.{BadChunk, LargeBody}
 use Rattle.http_messages.specs.declared.ends.SessionEnd.{SessionEnd}
-use Rattle.http_messages.specs.declared.ends.SessionEnd.TheVariants.{Closed, CutShort, ReadFault, WriteFault, NoMemory}
+use Rattle.http_messages.specs.declared.ends.SessionEnd.TheVariants.{Closed, Refused, CutShort, ReadFault, WriteFault, NoMemory, Worn}
 use Rattle.http_messages.specs.ReplyText.{reply_text}
 use Rattle.http_model.specs.Framings.{closes, interim_of, is_head}
 use Rattle.http_model.specs.Bodies.{ReadsBody, IsCutBody, IsBadChunked, IsLargeChunked}
@@ -217,6 +217,20 @@ ReplyCause writes writes_now end = writes_now ≡ writes
 
 -- ---- the whole
 
+-- lists for which something stands, the second of which has so many entries
+abbrev pub Counted : (List Entry → List Entry → Type 0) → ℕ → List Entry → List Entry → Type 0
+Counted stands count seen mine = stands seen mine × (length mine ≡ count)
+
+-- a fact, where that end is that of a worn desk
+abbrev pub IfWorn : SessionEnd → Type 0 → Type 0
+IfWorn Worn P = P
+IfWorn Closed P = ⊤
+IfWorn (Refused s) P = ⊤
+IfWorn CutShort P = ⊤
+IfWorn ReadFault P = ⊤
+IfWorn WriteFault P = ⊤
+IfWorn NoMemory P = ⊤
+
 -- behind the call the desk stands for lists that begin with the old ones, and what was written is served by the
 -- entries that joined its own
 pub record Serves (plans : TaskPlans) (stands : List Entry → List Entry → Type 0) (first : ℕ) (seen mine : List Entry)
@@ -226,6 +240,8 @@ pub record Serves (plans : TaskPlans) (stands : List Entry → List Entry → Ty
   pub stood : stands (seen ++ others) (mine ++ entries)
   pub worn : Bool
   pub wearing : IsTrue worn → first + length (seen ++ others) ≡ last_number
+  -- also where the source does not tell its bytes
+  pub ends_worn : IfWorn end (IsTrue worn)
   pub bytes : List ℕ
   pub taken_more : Appends taken taken_now bytes
   pub left_less : Consumes left left_now bytes

@@ -1,9 +1,9 @@
-ghost use Rattle.std.specs.Prelude.{◌≡◌, ℕ, List, [], None};
+ghost use Rattle.std.specs.Prelude.{◌≡◌, ◌≤◌, ◌+◌, ℕ, List, [], length, None};
 ghost use Rattle.world_cells.specs.World.{World};
 ghost use Rattle.task_forms.specs.declared.tasks.Entry.{Entry as StoreEntry};
 ghost use Rattle.task_forms.specs.declared.tasks.Task.{Task as StoreTask};
 ghost use Rattle.session_engine.specs.Plans.{plans_of};
-ghost use Rattle.session_engine.specs.Seen.{Serves, EndCause};
+ghost use Rattle.session_engine.specs.Seen.{Serves, Counted, EndCause};
 ghost use Rattle.session_engine.specs.Finishing.{Finishes, FinishCause, Stops, StopCause};
 
 use crate::{Limits, Next, Session};
@@ -13,13 +13,21 @@ use outer_ends::{Failed, Sink, Source};
 use std::alloc::Global;
 use task_forms::{Desk, DeskEnd, Planner};
 
-/// How a session ended, and how many messages it answered.
+/// How a session ended, how many messages it answered, and how many tasks the desk did.
 #[derive(Clone, Copy, Debug, PartialEq, Eq)]
 pub struct Driven {
     /// The end.
     pub end: SessionEnd,
     /// The messages that were answered.
     pub answered: u64,
+    /// The replies of the desk, each of which is one entry.
+    pub entries: u64,
+}
+
+/// How a session ended, and how many tasks the desk did.
+struct Ending {
+    end: SessionEnd,
+    entries: u64,
 }
 
 /// Writes the text for want of memory behind that end.
@@ -60,26 +68,40 @@ fn serve<S: Source, K: Sink, P: Planner, D: Desk>(
     sink: &mut K,
     desk: &mut D,
     session: &mut Session,
-) -> SessionEnd
+) -> Ending
     requires fresh { session.old ≡ record { answered = 0; buffer = []; pending = None } }
     requires fit { (t : StoreTask) → P.fit planner.now t → (D.meaning (D.fixed desk.old)).fit t }
     ensures fixed { D.fixed desk.new ≡ D.fixed desk.old }
+    ensures few { result.entries ≤ 1000000 }
     ensures serves { (first : ℕ) (w : World) (seen mine : List StoreEntry) → D.stands desk.old first w seen mine →
-        Serves (plans_of (P.planned planner.now)) (D.stands desk.new first w) first seen mine
-        (S.taken source.old) (S.taken source.new) (S.left source.old) (S.left source.new) (K.written sink.old) (K.written sink.new) session.new.answered result }
-    ensures cause { EndCause (S.faults source.old) (S.faults source.new) (K.faults sink.old) (K.faults sink.new) result }
+        Serves (plans_of (P.planned planner.now)) (Counted (D.stands desk.new first w) (length mine + result.entries)) first seen mine
+        (S.taken source.old) (S.taken source.new) (S.left source.old) (S.left source.new) (K.written sink.old) (K.written sink.new) session.new.answered result.end }
+    ensures cause { EndCause (S.faults source.old) (S.faults source.new) (K.faults sink.old) (K.faults sink.new) result.end }
 {
     read_stays();
+    let mut entries = 0;
     'serving: loop {
         match session.next(alloc, planner, source, sink) {
-            Next::Ended(end) => return finish(end, sink),
+            Next::Ended(end) => {
+                let end = finish(end, sink);
+                return Ending { end, entries };
+            }
             Next::Task(task) => match desk.answer(task) {
-                Err(DeskEnd::NoMemory) => return finish(SessionEnd::NoMemory, sink),
-                Err(DeskEnd::Worn) => return stop(sink),
-                Ok(reply) => match session.send(&reply, sink) {
-                    None => (),
-                    Some(end) => return end,
-                },
+                Err(DeskEnd::NoMemory) => {
+                    let end = finish(SessionEnd::NoMemory, sink);
+                    return Ending { end, entries };
+                }
+                Err(DeskEnd::Worn) => {
+                    let end = stop(sink);
+                    return Ending { end, entries };
+                }
+                Ok(reply) => {
+                    entries += 1;
+                    match session.send(&reply, sink) {
+                        None => (),
+                        Some(end) => return Ending { end, entries },
+                    }
+                }
             },
         }
     }
@@ -98,22 +120,28 @@ pub fn drive_counted<S: Source, K: Sink, P: Planner, D: Desk>(
 ) -> Driven
     requires fit { (t : StoreTask) → P.fit planner.now t → (D.meaning (D.fixed desk.old)).fit t }
     ensures fixed { D.fixed desk.new ≡ D.fixed desk.old }
+    ensures few { (result.answered ≤ 1000000) × (result.entries ≤ 1000000) }
     // For any lists for which the desk stood: it stands for lists that begin with them, and what was written is what the
-    // messages of the input are to be sent, by the entries that joined.
+    // messages of the input are to be sent, by the entries that joined, which are as many as is said.
     ensures serves { (first : ℕ) (w : World) (seen mine : List StoreEntry) → D.stands desk.old first w seen mine →
-        Serves (plans_of (P.planned planner.now)) (D.stands desk.new first w) first seen mine
+        Serves (plans_of (P.planned planner.now)) (Counted (D.stands desk.new first w) (length mine + result.entries)) first seen mine
         (S.taken source.old) (S.taken source.new) (S.left source.old) (S.left source.new) (K.written sink.old) (K.written sink.new) result.answered result.end }
     ensures cause { EndCause (S.faults source.old) (S.faults source.new) (K.faults sink.old) (K.faults sink.new) result.end }
 {
     read_stays();
     let Ok(mut session) = Session::new(alloc, limits) else {
         let end = finish(SessionEnd::NoMemory, sink);
-        return Driven { end, answered: 0 };
+        return Driven {
+            end,
+            answered: 0,
+            entries: 0,
+        };
     };
-    let end = serve(alloc, planner, source, sink, desk, &mut session);
+    let Ending { end, entries } = serve(alloc, planner, source, sink, desk, &mut session);
     Driven {
         end,
         answered: session.answered(),
+        entries,
     }
 }
 

@@ -1,4 +1,4 @@
-ghost use Rattle.std.specs.Prelude.{◌≡◌, ◌<◌, [], IfOk, IfSome, IsSome};
+ghost use Rattle.std.specs.Prelude.{◌≡◌, ◌<◌, ◌≤◌, [], IfOk, IfSome, IsSome};
 ghost use Rattle.http_model.specs.Refusals.{refusal_of, code_of};
 ghost use Rattle.session_engine.specs.Plans.{plans_of};
 ghost use Rattle.session_engine.specs.Seen.{StepSees, StepCause, NextSees, NextServes, NextCause, Replies, ReplyCause, FitStep, FitNext};
@@ -55,11 +55,14 @@ pub struct Session {
 }
 
 impl Model for Session {
+    ghost use Rattle.std.specs.Prelude.{◌≤◌};
     ghost use Rattle.session_engine.specs.States.{SessionState};
 
     ghost Value = { SessionState };
 
     ghost view = { λ s. record { answered = s.answered; buffer = s.buffer; pending = s.pending } };
+
+    ghost invariant = { λ s. s.answered ≤ 1000000 };
 }
 
 /// The code that is told for a reason to refuse a rest.
@@ -124,7 +127,8 @@ impl Session {
 
     /// How many messages were answered.
     pub fn answered(&self) -> u64
-        ensures { result ≡ self.now.answered }
+        ensures is { result ≡ self.now.answered }
+        ensures few { result ≤ 1000000 }
     {
         self.answered
     }
