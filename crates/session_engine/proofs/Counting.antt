@@ -1,6 +1,6 @@
 -- The number of the entries that joined, beside what a desk stands for.
 use Rattle.std.proofs.Common.{◌≡◌, ℕ, ◌+◌, ◌-◌, ◌<◌, List, [], ◌∷◌, ◌++◌, length, refl, None, sym, ap, subst, ◌∙◌, arith, append_assoc, length-append, add-zero}
-use Rattle.std.specs.declared.option.Option.{Option}
+use Rattle.outer_ends.specs.Told.{SourceTold, SinkTold}
 use Rattle.http_messages.specs.declared.messages.Reply.{Reply}
 use Rattle.http_messages.specs.declared.ends.SessionEnd.{SessionEnd}
 use Rattle.world_cells.specs.World.{World}
@@ -33,16 +33,16 @@ refuses_counted new later count e h first w seen mine c =
     let r = h first w seen mine c.0 in
     record { others = r.others; now = (r.now, c.1); worn = r.worn }
 
-pub none_counted : (plans : TaskPlans) (old : Standing) (base count : ℕ) (now : SessionState) (t l w : Option (List ℕ)) → count ≡ 0 → now ≡ record { answered = 0; buffer = []; pending = None }
-    → Serving plans (CountedFrom old base) (CountedFrom old (base + count)) now t t l l w w
-none_counted plans old base count now t l w zero e =
-    subst (λ (n : ℕ). Serving plans (CountedFrom old base) (CountedFrom old n) now t t l l w w) (sym (add-zero base) ∙ ap (λ (n : ℕ). base + n) (sym zero))
-    (serving_none plans (CountedFrom old base) now t l w e)
+pub none_counted : (plans : TaskPlans) (old : Standing) (base count : ℕ) (now : SessionState) (t : SourceTold) (w : SinkTold) → count ≡ 0 → now ≡ record { answered = 0; buffer = []; pending = None }
+    → Serving plans (CountedFrom old base) (CountedFrom old (base + count)) now t t w w
+none_counted plans old base count now t w zero e =
+    subst (λ (n : ℕ). Serving plans (CountedFrom old base) (CountedFrom old n) now t t w w) (sym (add-zero base) ∙ ap (λ (n : ℕ). base + n) (sym zero))
+    (serving_none plans (CountedFrom old base) now t w e)
 
 -- what is said with the count, without it
-pub serves_plain : (plans : TaskPlans) (stands : List Entry → List Entry → Type 0) (count first : ℕ) (seen mine : List Entry) (t u l m w x : Option (List ℕ)) (k : ℕ) (end : SessionEnd)
-    → Serves plans (Counted stands count) first seen mine t u l m w x k end → Serves plans stands first seen mine t u l m w x k end
-serves_plain plans stands count first seen mine t u l m w x k end h = record {
+pub serves_plain : (plans : TaskPlans) (stands : List Entry → List Entry → Type 0) (count first : ℕ) (seen mine : List Entry) (t u : SourceTold) (w x : SinkTold) (k : ℕ) (end : SessionEnd)
+    → Serves plans (Counted stands count) first seen mine t u w x k end → Serves plans stands first seen mine t u w x k end
+serves_plain plans stands count first seen mine t u w x k end h = record {
   others = h.others;
   entries = h.entries;
   stood = h.stood.0;

@@ -3,6 +3,7 @@ use Rattle.std.proofs.Common.{◌≡◌, ℕ, ◌<◌, Bool, true, false, List, 
 use Rattle.std.specs.Prelude.{if◌then◌else◌}
 use Rattle.std.specs.declared.option.Option.{Option}
 use Rattle.std.specs.Io.KnownBytes.{Appends}
+use Rattle.outer_ends.specs.Told.{SourceTold, SinkTold}
 use Rattle.outer_ends.specs.Streams.{AppendsFront}
 use Rattle.outer_ends.specs.StreamLaws.{appends_none, appends_then, consumes_then}
 use Rattle.http_messages.specs.declared.messages.Message.{Message}
@@ -65,10 +66,10 @@ accepted seen left now m framing v e =
 abbrev pub asked : Bool → List ℕ
 asked asks = if asks then interim_text else []
 
-pub found_write_fault : (old now : List ℕ) (t u l m w x : Option (List ℕ)) (message : Message) (framing : Framing) (asks : Bool)
-    → TakesHead old now t u l m (head.Head message) → framing_of message ≡ Ok framing → asks ≡ expects_continue message → AppendsFront w x (asked asks)
-    → TakesMessage old now t u l m w x found.WriteFault
-found_write_fault old now t u l m w x message framing asks h e a f = record {
+pub found_write_fault : (old now : List ℕ) (t u : SourceTold) (w x : SinkTold) (message : Message) (framing : Framing) (asks : Bool)
+    → TakesHead old now t u (head.Head message) → framing_of message ≡ Ok framing → asks ≡ expects_continue message → AppendsFront w.written x.written (asked asks)
+    → TakesMessage old now t u w x found.WriteFault
+found_write_fault old now t u w x message framing asks h e a f = record {
   bytes = h.bytes;
   taken_more = h.taken_more;
   left_less = h.left_less;
@@ -76,47 +77,47 @@ found_write_fault old now t u l m w x message framing asks h e a f = record {
   written_more = f.appended;
   verdict = (
     interim_of message,
-    inr (message, now, framing, accepted (old ++ h.bytes) m now message framing h.verdict e, refl),
+    inr (message, now, framing, accepted (old ++ h.bytes) u.left now message framing h.verdict e, refl),
     record { missing = f.missing; some_missing = f.some_missing; parts = ap asked (sym a) ∙ f.parts },
   );
 }
 
-pub found_rule : (old now : List ℕ) (t u l m w : Option (List ℕ)) (message : Message) (fault : HeadFault) (head_only : Bool)
-    → TakesHead old now t u l m (head.Head message) → framing_of message ≡ Err fault → head_only ≡ is_head message
-    → TakesMessage old now t u l m w w (found.Refused (Head fault) head_only)
-found_rule old now t u l m w message fault head_only h e f = record {
+pub found_rule : (old now : List ℕ) (t u : SourceTold) (w : SinkTold) (message : Message) (fault : HeadFault) (head_only : Bool)
+    → TakesHead old now t u (head.Head message) → framing_of message ≡ Err fault → head_only ≡ is_head message
+    → TakesMessage old now t u w w (found.Refused (Head fault) head_only)
+found_rule old now t u w message fault head_only h e f = record {
   bytes = h.bytes;
   taken_more = h.taken_more;
   left_less = h.left_less;
   sent = [];
-  written_more = appends_none w;
+  written_more = appends_none w.written;
   verdict = (message, now, h.verdict, e, refl, f);
 }
 
-pub found_rest : ReadStays → (old mid now : List ℕ) (t u v l m n w x : Option (List ℕ)) (message : Message) (framing : Framing) (asks : Bool) (end : Taken)
-    → TakesHead old mid t u l m (head.Head message) → framing_of message ≡ Ok framing → asks ≡ expects_continue message → Appends w x (asked asks)
-    → TakesRest message framing mid now u v m n end → TakesMessage old now t v l n w x end
-found_rest laws old mid now t u v l m n w x message framing asks end h e a p r = record {
+pub found_rest : ReadStays → (old mid now : List ℕ) (t u v : SourceTold) (w x : SinkTold) (message : Message) (framing : Framing) (asks : Bool) (end : Taken)
+    → TakesHead old mid t u (head.Head message) → framing_of message ≡ Ok framing → asks ≡ expects_continue message → Appends w.written x.written (asked asks)
+    → TakesRest message framing mid now u v end → TakesMessage old now t v w x end
+found_rest laws old mid now t u v w x message framing asks end h e a p r = record {
   bytes = h.bytes ++ r.bytes;
-  taken_more = appends_then t u v h.bytes r.bytes h.taken_more r.taken_more;
-  left_less = consumes_then l m n h.bytes r.bytes h.left_less r.left_less;
+  taken_more = appends_then t.taken u.taken v.taken h.bytes r.bytes h.taken_more r.taken_more;
+  left_less = consumes_then t.left u.left v.left h.bytes r.bytes h.left_less r.left_less;
   sent = asked asks;
   written_more = p;
-  verdict = subst (λ (s : List ℕ). MessageOn s n now (asked asks) end) (append_assoc old h.bytes r.bytes) (
-      message_of_rest ((old ++ h.bytes) ++ r.bytes) (mid ++ r.bytes) message framing n now (asked asks) end
-      (accepts_more laws (old ++ h.bytes) r.bytes message framing mid (accepted (old ++ h.bytes) m mid message framing h.verdict e))
+  verdict = subst (λ (s : List ℕ). MessageOn s v.left now (asked asks) end) (append_assoc old h.bytes r.bytes) (
+      message_of_rest ((old ++ h.bytes) ++ r.bytes) (mid ++ r.bytes) message framing v.left now (asked asks) end
+      (accepts_more laws (old ++ h.bytes) r.bytes message framing mid (accepted (old ++ h.bytes) u.left mid message framing h.verdict e))
       r.verdict
       (ap asked a)
       );
 }
 
-pub found_cut : (old now : List ℕ) (t u l m w : Option (List ℕ)) → TakesHead old now t u l m head.CutShort → TakesMessage old now t u l m w w found.CutShort
-found_cut old now t u l m w h = record {
+pub found_cut : (old now : List ℕ) (t u : SourceTold) (w : SinkTold) → TakesHead old now t u head.CutShort → TakesMessage old now t u w w found.CutShort
+found_cut old now t u w h = record {
   bytes = h.bytes;
   taken_more = h.taken_more;
   left_less = h.left_less;
   sent = [];
-  written_more = appends_none w;
+  written_more = appends_none w.written;
   verdict = (inl (h.verdict.2, h.verdict.3, h.verdict.4, refl), h.verdict.1);
 }
 
@@ -124,12 +125,12 @@ open_rest : HeadsDecided → (seen sent : List ℕ) (b : Bool) → empty_lines f
 open_rest heads seen sent true e short is_open none = inl ((short, heads.blank seen e), none)
 open_rest heads seen sent false e short is_open none = inr (inl (short, is_open, heads.not_blank seen e, none))
 
-pub found_fault : HeadsDecided → (old now : List ℕ) (t u l m w : Option (List ℕ)) → TakesHead old now t u l m head.ReadFault → TakesMessage old now t u l m w w found.ReadFault
-found_fault heads old now t u l m w h = record {
+pub found_fault : HeadsDecided → (old now : List ℕ) (t u : SourceTold) (w : SinkTold) → TakesHead old now t u head.ReadFault → TakesMessage old now t u w w found.ReadFault
+found_fault heads old now t u w h = record {
   bytes = h.bytes;
   taken_more = h.taken_more;
   left_less = h.left_less;
   sent = [];
-  written_more = appends_none w;
+  written_more = appends_none w.written;
   verdict = open_rest heads (old ++ h.bytes) [] (empty_lines false (old ++ h.bytes)) refl h.verdict.1 h.verdict.2 refl;
 }

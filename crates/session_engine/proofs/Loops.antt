@@ -3,7 +3,9 @@ use Rattle.std.proofs.Common.{◌≡◌, ℕ, ◌<◌, false, List, [], ◌++◌
 use Rattle.std.specs.Prelude.{IfSome}
 use Rattle.std.specs.declared.option.Option.{Option}
 use Rattle.std.specs.Io.KnownBytes.{Appends, Consumes}
+use Rattle.outer_ends.specs.Told.{SourceTold, SinkTold}
 use Rattle.outer_ends.specs.StreamLaws.{appends_none, appends_then, consumes_none, consumes_then}
+use Rattle.outer_ends.specs.Causes.{Rose}
 use Rattle.http_messages.specs.declared.ends.SessionEnd.{SessionEnd}
 use Rattle.http_messages.specs.declared.ends.SessionEnd.TheVariants.{Closed, Refused, CutShort, ReadFault, WriteFault, NoMemory, Worn}
 use Rattle.http_model.specs.Framings.{interim_of}
@@ -19,22 +21,22 @@ use Rattle.session_engine.specs.Seen.{Answers, RanOut, Asks, EndOn, StepSees, Ne
 use Rattle.session_engine.proofs.Ends.{answers_none, answers_then, answers_more, settles_then, served_over}
 
 -- from old to now, messages were answered with fixed replies
-pub record Going (plans : TaskPlans) (old now : SessionState) (taken taken_now left left_now written written_now : Option (List ℕ)) : Type 0 where
+pub record Going (plans : TaskPlans) (old now : SessionState) (source source_now : SourceTold) (sink sink_now : SinkTold) : Type 0 where
   pub bytes : List ℕ
-  pub taken_more : Appends taken taken_now bytes
-  pub left_less : Consumes left left_now bytes
+  pub taken_more : Appends source.taken source_now.taken bytes
+  pub left_less : Consumes source.left source_now.left bytes
   pub sent : List ℕ
-  pub written_more : Appends written written_now sent
+  pub written_more : Appends sink.written sink_now.written sent
   pub before : Answers plans old.answered (old.buffer ++ bytes) now.answered now.buffer [] sent
   pub few : now.answered < 1000000
 
-pub going_none : (plans : TaskPlans) (old : SessionState) (t l w : Option (List ℕ)) → old.answered < 1000000 → Going plans old old t t l l w w
-going_none plans old t l w few = record {
+pub going_none : (plans : TaskPlans) (old : SessionState) (t : SourceTold) (w : SinkTold) → old.answered < 1000000 → Going plans old old t t w w
+going_none plans old t w few = record {
   bytes = [];
-  taken_more = appends_none t;
-  left_less = consumes_none l;
+  taken_more = appends_none t.taken;
+  left_less = consumes_none t.left;
   sent = [];
-  written_more = appends_none w;
+  written_more = appends_none w.written;
   before = subst (λ (b : List ℕ). Answers plans old.answered (old.buffer ++ []) old.answered b [] []) (append-nil old.buffer) (answers_none plans old.answered (old.buffer ++ []));
   few = few;
 }
@@ -80,47 +82,53 @@ end_then plans i a j b left k s t ReadFault p q = settles_then plans i a j b lef
 end_then plans i a j b left k s t WriteFault p q = settles_then plans i a j b left false k [] [] s t WriteFault p q
 end_then plans i a j b left k s t Worn p q = settles_then plans i a j b left false k [] [] s t Worn p q
 
-pub going_more : ReadStays → (plans : TaskPlans) (old mid now : SessionState) (t u v l m n w x y : Option (List ℕ)) → Going plans old mid t u l m w x
-    → StepSees plans mid now u v m n x y step.Answered → Going plans old now t v l n w y
-going_more laws plans old mid now t u v l m n w x y p q = record {
+pub going_more : ReadStays → (plans : TaskPlans) (old mid now : SessionState) (t u v : SourceTold) (w x y : SinkTold) → Going plans old mid t u w x
+    → StepSees plans mid now u v x y step.Answered → Going plans old now t v w y
+going_more laws plans old mid now t u v w x y p q = record {
   bytes = p.bytes ++ q.bytes;
-  taken_more = appends_then t u v p.bytes q.bytes p.taken_more q.taken_more;
-  left_less = consumes_then l m n p.bytes q.bytes p.left_less q.left_less;
+  taken_more = appends_then t.taken u.taken v.taken p.bytes q.bytes p.taken_more q.taken_more;
+  left_less = consumes_then t.left u.left v.left p.bytes q.bytes p.left_less q.left_less;
   sent = p.sent ++ q.sent;
-  written_more = appends_then w x y p.sent q.sent p.written_more q.written_more;
+  written_more = appends_then w.written x.written y.written p.sent q.sent p.written_more q.written_more;
   before = answers_then plans old.answered (old.buffer ++ (p.bytes ++ q.bytes)) mid.answered (mid.buffer ++ q.bytes) now.answered now.buffer [] [] p.sent q.sent
       (over_more laws plans old.answered old.buffer p.bytes mid.answered mid.buffer q.bytes p.sent p.before) q.verdict.0;
   few = q.verdict.2;
 }
 
-pub going_task : ReadStays → (plans : TaskPlans) (old mid now : SessionState) (t u v l m n w x y : Option (List ℕ)) (task : Task) → Going plans old mid t u l m w x
-    → StepSees plans mid now u v m n x y (step.Task task) → NextSees plans old now t v l n w y (next.Task task)
-going_task laws plans old mid now t u v l m n w x y task p q = record {
+pub going_task : ReadStays → (plans : TaskPlans) (old mid now : SessionState) (t u v : SourceTold) (w x y : SinkTold) (task : Task) → Going plans old mid t u w x
+    → StepSees plans mid now u v x y (step.Task task) → NextSees plans old now t v w y (next.Task task)
+going_task laws plans old mid now t u v w x y task p q = record {
   bytes = p.bytes ++ q.bytes;
-  taken_more = appends_then t u v p.bytes q.bytes p.taken_more q.taken_more;
-  left_less = consumes_then l m n p.bytes q.bytes p.left_less q.left_less;
+  taken_more = appends_then t.taken u.taken v.taken p.bytes q.bytes p.taken_more q.taken_more;
+  left_less = consumes_then t.left u.left v.left p.bytes q.bytes p.left_less q.left_less;
   sent = p.sent ++ q.sent;
-  written_more = appends_then w x y p.sent q.sent p.written_more q.written_more;
+  written_more = appends_then w.written x.written y.written p.sent q.sent p.written_more q.written_more;
   verdict = asks_then plans old.answered (old.buffer ++ (p.bytes ++ q.bytes)) mid.answered (mid.buffer ++ q.bytes) now p.sent q.sent task
       (over_more laws plans old.answered old.buffer p.bytes mid.answered mid.buffer q.bytes p.sent p.before) q.verdict;
 }
 
-pub going_end : ReadStays → (plans : TaskPlans) (old mid now : SessionState) (t u v l m n w x y : Option (List ℕ)) (end : SessionEnd) → Going plans old mid t u l m w x
-    → StepSees plans mid now u v m n x y (step.Ended end) → NextSees plans old now t v l n w y (next.Ended end)
-going_end laws plans old mid now t u v l m n w x y end p q = record {
+pub going_end : ReadStays → (plans : TaskPlans) (old mid now : SessionState) (t u v : SourceTold) (w x y : SinkTold) (end : SessionEnd) → Going plans old mid t u w x
+    → StepSees plans mid now u v x y (step.Ended end) → NextSees plans old now t v w y (next.Ended end)
+going_end laws plans old mid now t u v w x y end p q = record {
   bytes = p.bytes ++ q.bytes;
-  taken_more = appends_then t u v p.bytes q.bytes p.taken_more q.taken_more;
-  left_less = consumes_then l m n p.bytes q.bytes p.left_less q.left_less;
+  taken_more = appends_then t.taken u.taken v.taken p.bytes q.bytes p.taken_more q.taken_more;
+  left_less = consumes_then t.left u.left v.left p.bytes q.bytes p.left_less q.left_less;
   sent = p.sent ++ q.sent;
-  written_more = appends_then w x y p.sent q.sent p.written_more q.written_more;
-  verdict = end_then plans old.answered (old.buffer ++ (p.bytes ++ q.bytes)) mid.answered (mid.buffer ++ q.bytes) n now.answered p.sent q.sent end
+  written_more = appends_then w.written x.written y.written p.sent q.sent p.written_more q.written_more;
+  verdict = end_then plans old.answered (old.buffer ++ (p.bytes ++ q.bytes)) mid.answered (mid.buffer ++ q.bytes) v.left now.answered p.sent q.sent end
       (over_more laws plans old.answered old.buffer p.bytes mid.answered mid.buffer q.bytes p.sent p.before) q.verdict;
 }
 
 -- ---- causes
 
-pub cause_then : (r s u w x y : ℕ) (end : SessionEnd) → s ≡ r → x ≡ w → EndCause s u x y end → EndCause r u w y end
-cause_then r s u w x y end e f h = subst (λ (a : ℕ). EndCause a u w y end) e (subst (λ (a : ℕ). EndCause s u a y end) f h)
+pub cause_then : (r s u : SourceTold) (w x y : SinkTold) (end : SessionEnd) → s.faults ≡ r.faults → x.faults ≡ w.faults → EndCause s u x y end → EndCause r u w y end
+cause_then r s u w x y ReadFault e f h = (subst (λ (a : ℕ). Rose a u.faults) e h.0, h.1 ∙ f)
+cause_then r s u w x y WriteFault e f h = (subst (λ (a : ℕ). Rose a y.faults) f h.0, h.1 ∙ e)
+cause_then r s u w x y Closed e f h = (h.0 ∙ e, h.1 ∙ f)
+cause_then r s u w x y (Refused k) e f h = (h.0 ∙ e, h.1 ∙ f)
+cause_then r s u w x y CutShort e f h = (h.0 ∙ e, h.1 ∙ f)
+cause_then r s u w x y NoMemory e f h = (h.0 ∙ e, h.1 ∙ f)
+cause_then r s u w x y Worn e f h = (h.0 ∙ e, h.1 ∙ f)
 
 -- ---- by all that stood there
 
@@ -158,14 +166,14 @@ end_told laws plans i buffer bytes (Some more) (Some y) k s end p h =
     subst (λ (l : List ℕ). EndOver plans i l (buffer ++ bytes) k s end) (append_assoc buffer bytes y ∙ ap (λ (l : List ℕ). buffer ++ l) (sym p))
     (end_over laws plans i (buffer ++ bytes) y k s end h)
 
-pub next_told : ReadStays → (plans : TaskPlans) (old now : SessionState) (t u l m w x : Option (List ℕ)) (result : Next)
-    → NextSees plans old now t u l m w x result → NextServes plans old now t u l m w x result
-next_told laws plans old now t u l m w x (next.Task task) h = tt
-next_told laws plans old now t u l m w x (next.Ended end) h = record {
+pub next_told : ReadStays → (plans : TaskPlans) (old now : SessionState) (t u : SourceTold) (w x : SinkTold) (result : Next)
+    → NextSees plans old now t u w x result → NextServes plans old now t u w x result
+next_told laws plans old now t u w x (next.Task task) h = tt
+next_told laws plans old now t u w x (next.Ended end) h = record {
   bytes = h.bytes;
   taken_more = h.taken_more;
   left_less = h.left_less;
   sent = h.sent;
   written_more = h.written_more;
-  verdict = end_told laws plans old.answered old.buffer h.bytes l m now.answered h.sent end h.left_less h.verdict;
+  verdict = end_told laws plans old.answered old.buffer h.bytes t.left u.left now.answered h.sent end h.left_less h.verdict;
 }

@@ -3,6 +3,7 @@ use Rattle.std.proofs.Common.{◌≡◌, ℕ, ◌+◌, ◌<◌, Bool, true, fals
 use Rattle.std.specs.Prelude.{IsTrue, IsFalse}
 use Rattle.std.specs.declared.option.Option.{Option}
 use Rattle.std.specs.Io.KnownBytes.{Appends, IsAtEnd}
+use Rattle.outer_ends.specs.Told.{SourceTold, SinkTold}
 use Rattle.outer_ends.specs.StreamLaws.{appends_then}
 use Rattle.http_messages.specs.declared.messages.Message.{Message}
 use Rattle.http_messages.specs.declared.messages.Reply.{Reply}
@@ -61,10 +62,10 @@ prefix_behind a s b missing some e = record {
 
 -- ---- the ends
 
-pub step_message : (plans : TaskPlans) (old now : SessionState) (t u l m w x : Option (List ℕ)) (found : Taken) (end : SessionEnd)
-    (h : TakesMessage old.buffer now.buffer t u l m w x found) → EndOn plans old.answered (old.buffer ++ h.bytes) m now.answered h.sent end
-    → StepSees plans old now t u l m w x (step.Ended end)
-step_message plans old now t u l m w x found end h v =
+pub step_message : (plans : TaskPlans) (old now : SessionState) (t u : SourceTold) (w x : SinkTold) (found : Taken) (end : SessionEnd)
+    (h : TakesMessage old.buffer now.buffer t u w x found) → EndOn plans old.answered (old.buffer ++ h.bytes) u.left now.answered h.sent end
+    → StepSees plans old now t u w x (step.Ended end)
+step_message plans old now t u w x found end h v =
     record { bytes = h.bytes; taken_more = h.taken_more; left_less = h.left_less; sent = h.sent; written_more = h.written_more; verdict = v }
 
 -- memory ran out behind what stands there
@@ -72,17 +73,17 @@ runs_out : (plans : TaskPlans) (i k : ℕ) (seen sent : List ℕ) → k ≡ i �
 runs_out plans i k seen sent e h =
     record { rest = seen; text = []; before = subst (λ (n : ℕ). Answers plans i seen n seen [] []) (sym e) (answers_none plans i seen); early = sent; is_early = h; whole = refl }
 
-pub step_plan_fails : (plans : TaskPlans) (old now : SessionState) (t u l m w x : Option (List ℕ)) (message : Message)
-    → TakesMessage old.buffer now.buffer t u l m w x (found.Whole message) → now.answered ≡ old.answered
-    → StepSees plans old now t u l m w x (step.Ended NoMemory)
-step_plan_fails plans old now t u l m w x message h e =
-    step_message plans old now t u l m w x (found.Whole message) NoMemory h
+pub step_plan_fails : (plans : TaskPlans) (old now : SessionState) (t u : SourceTold) (w x : SinkTold) (message : Message)
+    → TakesMessage old.buffer now.buffer t u w x (found.Whole message) → now.answered ≡ old.answered
+    → StepSees plans old now t u w x (step.Ended NoMemory)
+step_plan_fails plans old now t u w x message h e =
+    step_message plans old now t u w x (found.Whole message) NoMemory h
     (runs_out plans old.answered now.answered (old.buffer ++ h.bytes) h.sent e (early_of (old.buffer ++ h.bytes) message now.buffer h.sent h.verdict.0 h.verdict.1))
 
-pub step_no_memory : (plans : TaskPlans) (old now : SessionState) (t u l m w x : Option (List ℕ))
-    → TakesMessage old.buffer now.buffer t u l m w x found.NoMemory → now.answered ≡ old.answered → StepSees plans old now t u l m w x (step.Ended NoMemory)
-step_no_memory plans old now t u l m w x h e =
-    step_message plans old now t u l m w x found.NoMemory NoMemory h
+pub step_no_memory : (plans : TaskPlans) (old now : SessionState) (t u : SourceTold) (w x : SinkTold)
+    → TakesMessage old.buffer now.buffer t u w x found.NoMemory → now.answered ≡ old.answered → StepSees plans old now t u w x (step.Ended NoMemory)
+step_no_memory plans old now t u w x h e =
+    step_message plans old now t u w x found.NoMemory NoMemory h
     (runs_out plans old.answered now.answered (old.buffer ++ h.bytes) h.sent e h.verdict)
 
 at : (plans : TaskPlans) (i k : ℕ) (seen : List ℕ) (left : Option (List ℕ)) (tail : List ℕ) (end : SessionEnd) → k ≡ i
@@ -90,23 +91,23 @@ at : (plans : TaskPlans) (i k : ℕ) (seen : List ℕ) (left : Option (List ℕ)
 at plans i k seen left tail end e h final =
     subst (λ (n : ℕ). Settles plans i seen left false n [] tail end) (sym e) (settles_at plans i seen left false [] tail end h final)
 
-pub step_cut : (plans : TaskPlans) (old now : SessionState) (t u l m w x : Option (List ℕ))
-    → TakesMessage old.buffer now.buffer t u l m w x found.CutShort → now.answered ≡ old.answered → StepSees plans old now t u l m w x (step.Ended CutShort)
-step_cut plans old now t u l m w x h e =
-    step_message plans old now t u l m w x found.CutShort CutShort h
-    (at plans old.answered now.answered (old.buffer ++ h.bytes) m h.sent CutShort e (no_exchange, h.verdict.0, refl) (inl h.verdict.1))
+pub step_cut : (plans : TaskPlans) (old now : SessionState) (t u : SourceTold) (w x : SinkTold)
+    → TakesMessage old.buffer now.buffer t u w x found.CutShort → now.answered ≡ old.answered → StepSees plans old now t u w x (step.Ended CutShort)
+step_cut plans old now t u w x h e =
+    step_message plans old now t u w x found.CutShort CutShort h
+    (at plans old.answered now.answered (old.buffer ++ h.bytes) u.left h.sent CutShort e (no_exchange, h.verdict.0, refl) (inl h.verdict.1))
 
-pub step_read_fault : (plans : TaskPlans) (old now : SessionState) (t u l m w x : Option (List ℕ))
-    → TakesMessage old.buffer now.buffer t u l m w x found.ReadFault → now.answered ≡ old.answered → StepSees plans old now t u l m w x (step.Ended ReadFault)
-step_read_fault plans old now t u l m w x h e =
-    step_message plans old now t u l m w x found.ReadFault ReadFault h
-    (at plans old.answered now.answered (old.buffer ++ h.bytes) m h.sent ReadFault e (no_exchange, h.verdict, refl) (inr tt))
+pub step_read_fault : (plans : TaskPlans) (old now : SessionState) (t u : SourceTold) (w x : SinkTold)
+    → TakesMessage old.buffer now.buffer t u w x found.ReadFault → now.answered ≡ old.answered → StepSees plans old now t u w x (step.Ended ReadFault)
+step_read_fault plans old now t u w x h e =
+    step_message plans old now t u w x found.ReadFault ReadFault h
+    (at plans old.answered now.answered (old.buffer ++ h.bytes) u.left h.sent ReadFault e (no_exchange, h.verdict, refl) (inr tt))
 
-pub step_write_fault : (plans : TaskPlans) (old now : SessionState) (t u l m w x : Option (List ℕ))
-    → TakesMessage old.buffer now.buffer t u l m w x found.WriteFault → now.answered ≡ old.answered → StepSees plans old now t u l m w x (step.Ended WriteFault)
-step_write_fault plans old now t u l m w x h e =
-    step_message plans old now t u l m w x found.WriteFault WriteFault h
-    (at plans old.answered now.answered (old.buffer ++ h.bytes) m h.sent WriteFault e
+pub step_write_fault : (plans : TaskPlans) (old now : SessionState) (t u : SourceTold) (w x : SinkTold)
+    → TakesMessage old.buffer now.buffer t u w x found.WriteFault → now.answered ≡ old.answered → StepSees plans old now t u w x (step.Ended WriteFault)
+step_write_fault plans old now t u w x h e =
+    step_message plans old now t u w x found.WriteFault WriteFault h
+    (at plans old.answered now.answered (old.buffer ++ h.bytes) u.left h.sent WriteFault e
     (no_exchange, (h.verdict.0 ++ unavailable_text, in_last (record { early = h.verdict.0; is_early = h.verdict.1; whole = refl }) refl, prefix_more h.sent h.verdict.0 unavailable_text h.verdict.2)) (inr tt))
 
 -- ---- a rest that is refused
@@ -120,25 +121,25 @@ early_refused a (reason.Head r) early head_only h = inl h.4
 early_refused a reason.BadChunk early head_only h = inr (h.0, h.1, Chunked, h.2, h.4)
 early_refused a reason.LargeBody early head_only h = inr (h.0, h.1, Chunked, h.2, h.4)
 
-pub step_refused : (plans : TaskPlans) (old now : SessionState) (t u l m w x y : Option (List ℕ)) (why : RefusedRest) (head_only : Bool) (end : SessionEnd)
-    → TakesMessage old.buffer now.buffer t u l m w x (found.Refused why head_only) → Refuses (refusal_of why) head_only x y end → now.answered ≡ old.answered
-    → StepSees plans old now t u l m w y (step.Ended end)
-step_refused plans old now t u l m w x y why head_only (Refused s) h r e = record {
+pub step_refused : (plans : TaskPlans) (old now : SessionState) (t u : SourceTold) (w x y : SinkTold) (why : RefusedRest) (head_only : Bool) (end : SessionEnd)
+    → TakesMessage old.buffer now.buffer t u w x (found.Refused why head_only) → Refuses (refusal_of why) head_only x y end → now.answered ≡ old.answered
+    → StepSees plans old now t u w y (step.Ended end)
+step_refused plans old now t u w x y why head_only (Refused s) h r e = record {
   bytes = h.bytes;
   taken_more = h.taken_more;
   left_less = h.left_less;
   sent = h.sent ++ reply_text (refusal_of why) head_only true;
-  written_more = appends_then w x y h.sent (reply_text (refusal_of why) head_only true) h.written_more r.0;
-  verdict = at plans old.answered now.answered (old.buffer ++ h.bytes) m (h.sent ++ reply_text (refusal_of why) head_only true) (Refused s) e
+  written_more = appends_then w.written x.written y.written h.sent (reply_text (refusal_of why) head_only true) h.written_more r.0;
+  verdict = at plans old.answered now.answered (old.buffer ++ h.bytes) u.left (h.sent ++ reply_text (refusal_of why) head_only true) (Refused s) e
       (no_exchange, record { why = why; early = h.sent; head_only = head_only; refused = h.verdict; whole = refl; status_of = r.1 }, refl) (inr tt);
 }
-step_refused plans old now t u l m w x y why head_only WriteFault h r e = record {
+step_refused plans old now t u w x y why head_only WriteFault h r e = record {
   bytes = h.bytes;
   taken_more = h.taken_more;
   left_less = h.left_less;
   sent = h.sent ++ r.sent;
-  written_more = appends_then w x y h.sent r.sent h.written_more r.appended;
-  verdict = at plans old.answered now.answered (old.buffer ++ h.bytes) m (h.sent ++ r.sent) WriteFault e (
+  written_more = appends_then w.written x.written y.written h.sent r.sent h.written_more r.appended;
+  verdict = at plans old.answered now.answered (old.buffer ++ h.bytes) u.left (h.sent ++ r.sent) WriteFault e (
     no_exchange,
     (
       h.sent ++ reply_text (refusal_of why) head_only true,
@@ -147,18 +148,18 @@ step_refused plans old now t u l m w x y why head_only WriteFault h r e = record
     ),
   ) (inr tt);
 }
-step_refused plans old now t u l m w x y why head_only NoMemory h r e = record {
+step_refused plans old now t u w x y why head_only NoMemory h r e = record {
   bytes = h.bytes;
   taken_more = h.taken_more;
   left_less = h.left_less;
   sent = h.sent;
-  written_more = subst (λ (z : Option (List ℕ)). Appends w z h.sent) (sym r) h.written_more;
+  written_more = subst (λ (z : Option (List ℕ)). Appends w.written z h.sent) (sym r) h.written_more;
   verdict = runs_out plans old.answered now.answered (old.buffer ++ h.bytes) h.sent e (early_refused (old.buffer ++ h.bytes) why h.sent head_only h.verdict);
 }
-step_refused plans old now t u l m w x y why head_only Closed h r e = absurd r
-step_refused plans old now t u l m w x y why head_only CutShort h r e = absurd r
-step_refused plans old now t u l m w x y why head_only ReadFault h r e = absurd r
-step_refused plans old now t u l m w x y why head_only Worn h r e = absurd r
+step_refused plans old now t u w x y why head_only Closed h r e = absurd r
+step_refused plans old now t u w x y why head_only CutShort h r e = absurd r
+step_refused plans old now t u w x y why head_only ReadFault h r e = absurd r
+step_refused plans old now t u w x y why head_only Worn h r e = absurd r
 
 -- ---- a message that is answered
 
@@ -170,15 +171,15 @@ pub sent_same : (m : Message) (n : ℕ) (r : Reply) (sent : List ℕ) (p : Pendi
     → sent ++ reply_text r p.head_only p.close ≡ sent_for m n r
 sent_same m n r sent p e f g = λ i. e i ++ reply_text r (f i) (g i)
 
-pub step_answered : (plans : TaskPlans) (old mid now : SessionState) (t u l m w x y : Option (List ℕ)) (message : Message) (r : Reply) (p : Pending)
-    → TakesMessage old.buffer mid.buffer t u l m w x (found.Whole message) → plans.plan message ≡ planned_reply r → p.head_only ≡ is_head message → p.close ≡ closes message (mid.answered + 1)
-    → mid.answered ≡ old.answered → old.answered < 1000000 → Replies p r mid now x y None → StepSees plans old now t u l m w y step.Answered
-step_answered plans old mid now t u l m w x y message r p h planned head_only close e few done = record {
+pub step_answered : (plans : TaskPlans) (old mid now : SessionState) (t u : SourceTold) (w x y : SinkTold) (message : Message) (r : Reply) (p : Pending)
+    → TakesMessage old.buffer mid.buffer t u w x (found.Whole message) → plans.plan message ≡ planned_reply r → p.head_only ≡ is_head message → p.close ≡ closes message (mid.answered + 1)
+    → mid.answered ≡ old.answered → old.answered < 1000000 → Replies p r mid now x y None → StepSees plans old now t u w y step.Answered
+step_answered plans old mid now t u w x y message r p h planned head_only close e few done = record {
   bytes = h.bytes;
   taken_more = h.taken_more;
   left_less = h.left_less;
   sent = h.sent ++ reply_text r p.head_only p.close;
-  written_more = appends_then w x y h.sent (reply_text r p.head_only p.close) h.written_more done.0;
+  written_more = appends_then w.written x.written y.written h.sent (reply_text r p.head_only p.close) h.written_more done.0;
   verdict = (
     subst (λ (v : SessionState). Answers plans old.answered (old.buffer ++ h.bytes) v.answered v.buffer [] (h.sent ++ reply_text r p.head_only p.close)) (sym done.2)
         (subst (λ (n : ℕ). Answers plans old.answered (old.buffer ++ h.bytes) (n + 1) mid.buffer [] (h.sent ++ reply_text r p.head_only p.close)) (sym e)
@@ -198,21 +199,21 @@ step_answered plans old mid now t u l m w x y message r p h planned head_only cl
     answer : IsAnswer plans (plans.plan message) r []
     answer = subst (λ (v : Planned Task). IsAnswer plans v r []) (sym planned) (refl, refl)
 
-pub step_replied : (plans : TaskPlans) (old mid now : SessionState) (t u l m w x y : Option (List ℕ)) (message : Message) (r : Reply) (p : Pending) (end : SessionEnd)
-    → TakesMessage old.buffer mid.buffer t u l m w x (found.Whole message) → plans.plan message ≡ planned_reply r → p.head_only ≡ is_head message → p.close ≡ closes message (mid.answered + 1)
-    → mid.answered ≡ old.answered → Replies p r mid now x y (Some end) → StepSees plans old now t u l m w y (step.Ended end)
-step_replied plans old mid now t u l m w x y message r p Closed h planned head_only close e done = record {
+pub step_replied : (plans : TaskPlans) (old mid now : SessionState) (t u : SourceTold) (w x y : SinkTold) (message : Message) (r : Reply) (p : Pending) (end : SessionEnd)
+    → TakesMessage old.buffer mid.buffer t u w x (found.Whole message) → plans.plan message ≡ planned_reply r → p.head_only ≡ is_head message → p.close ≡ closes message (mid.answered + 1)
+    → mid.answered ≡ old.answered → Replies p r mid now x y (Some end) → StepSees plans old now t u w y (step.Ended end)
+step_replied plans old mid now t u w x y message r p Closed h planned head_only close e done = record {
   bytes = h.bytes;
   taken_more = h.taken_more;
   left_less = h.left_less;
   sent = h.sent ++ reply_text r p.head_only p.close;
-  written_more = appends_then w x y h.sent (reply_text r p.head_only p.close) h.written_more done.0;
+  written_more = appends_then w.written x.written y.written h.sent (reply_text r p.head_only p.close) h.written_more done.0;
   verdict =
-      subst (λ (n : ℕ). Settles plans old.answered (old.buffer ++ h.bytes) m false n [] (h.sent ++ reply_text r p.head_only p.close) Closed)
+      subst (λ (n : ℕ). Settles plans old.answered (old.buffer ++ h.bytes) u.left false n [] (h.sent ++ reply_text r p.head_only p.close) Closed)
       (ap (λ (n : ℕ). n + 1) (sym e) ∙ ap (λ (v : SessionState). v.answered) (sym done.2))
-      (subst (λ (s : List ℕ). Settles plans old.answered (old.buffer ++ h.bytes) m false (old.answered + 1) [] s Closed)
+      (subst (λ (s : List ℕ). Settles plans old.answered (old.buffer ++ h.bytes) u.left false (old.answered + 1) [] s Closed)
       (sym (sent_same message (old.answered + 1) r h.sent p h.verdict.1 head_only closes_now))
-      (settles_last plans old.answered (old.buffer ++ h.bytes) m false (exchange_of old.answered message r []) mid.buffer h.verdict.0 refl answer closing));
+      (settles_last plans old.answered (old.buffer ++ h.bytes) u.left false (exchange_of old.answered message r []) mid.buffer h.verdict.0 refl answer closing));
 }
   where
     closes_now : p.close ≡ closes message (old.answered + 1)
@@ -223,13 +224,13 @@ step_replied plans old mid now t u l m w x y message r p Closed h planned head_o
 
     answer : IsAnswer plans (plans.plan message) r []
     answer = subst (λ (v : Planned Task). IsAnswer plans v r []) (sym planned) (refl, refl)
-step_replied plans old mid now t u l m w x y message r p WriteFault h planned head_only close e done = record {
+step_replied plans old mid now t u w x y message r p WriteFault h planned head_only close e done = record {
   bytes = h.bytes;
   taken_more = h.taken_more;
   left_less = h.left_less;
   sent = h.sent ++ done.0.sent;
-  written_more = appends_then w x y h.sent done.0.sent h.written_more done.0.appended;
-  verdict = at plans old.answered now.answered (old.buffer ++ h.bytes) m (h.sent ++ done.0.sent) WriteFault (ap (λ (v : SessionState). v.answered) done.1 ∙ e) (
+  written_more = appends_then w.written x.written y.written h.sent done.0.sent h.written_more done.0.appended;
+  verdict = at plans old.answered now.answered (old.buffer ++ h.bytes) u.left (h.sent ++ done.0.sent) WriteFault (ap (λ (v : SessionState). v.answered) done.1 ∙ e) (
     no_exchange,
     (
       h.sent ++ reply_text r p.head_only p.close,
@@ -244,13 +245,13 @@ step_replied plans old mid now t u l m w x y message r p WriteFault h planned he
 
     answer : IsAnswer plans (plans.plan message) r []
     answer = subst (λ (v : Planned Task). IsAnswer plans v r []) (sym planned) (refl, refl)
-step_replied plans old mid now t u l m w x y message r p (Refused s) h planned head_only close e done = absurd done
-step_replied plans old mid now t u l m w x y message r p CutShort h planned head_only close e done = absurd done
-step_replied plans old mid now t u l m w x y message r p ReadFault h planned head_only close e done = absurd done
-step_replied plans old mid now t u l m w x y message r p NoMemory h planned head_only close e done = absurd done
-step_replied plans old mid now t u l m w x y message r p Worn h planned head_only close e done = absurd done
+step_replied plans old mid now t u w x y message r p (Refused s) h planned head_only close e done = absurd done
+step_replied plans old mid now t u w x y message r p CutShort h planned head_only close e done = absurd done
+step_replied plans old mid now t u w x y message r p ReadFault h planned head_only close e done = absurd done
+step_replied plans old mid now t u w x y message r p NoMemory h planned head_only close e done = absurd done
+step_replied plans old mid now t u w x y message r p Worn h planned head_only close e done = absurd done
 
 -- the session before the step under another name
-pub along : (plans : TaskPlans) (a b now : SessionState) (t u l m w x : Option (List ℕ)) (r : Step) → a ≡ b
-    → StepSees plans a now t u l m w x r → StepSees plans b now t u l m w x r
-along plans a b now t u l m w x r e h = subst (λ (s : SessionState). StepSees plans s now t u l m w x r) e h
+pub along : (plans : TaskPlans) (a b now : SessionState) (t u : SourceTold) (w x : SinkTold) (r : Step) → a ≡ b
+    → StepSees plans a now t u w x r → StepSees plans b now t u w x r
+along plans a b now t u w x r e h = subst (λ (s : SessionState). StepSees plans s now t u w x r) e h

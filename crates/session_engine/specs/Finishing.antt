@@ -1,7 +1,7 @@
 -- What the last text of a session is.
 use Rattle.std.specs.Prelude.{◌≡◌, ℕ, Bool, true, List}
-use Rattle.std.specs.declared.option.Option.{Option}
 use Rattle.std.specs.Io.KnownBytes.{Appends}
+use Rattle.outer_ends.specs.Told.{SinkTold}
 use Rattle.outer_ends.specs.Causes.{Rose}
 use Rattle.outer_ends.specs.Streams.{AppendsFront}
 use Rattle.http_messages.specs.declared.messages.Reply.{Reply}
@@ -10,50 +10,50 @@ use Rattle.http_messages.specs.ReplyText.{reply_text, unavailable_text, stop_tex
 use Rattle.http_messages.specs.declared.ends.SessionEnd.{SessionEnd}
 use Rattle.http_messages.specs.declared.ends.SessionEnd.TheVariants.{Closed, Refused, CutShort, ReadFault, WriteFault, NoMemory, Worn}
 
-abbrev pub Refuses : Reply → Bool → Option (List ℕ) → Option (List ℕ) → SessionEnd → Type 0
-Refuses reply head_only written now (Refused s) = Appends written now (reply_text reply head_only true) × (s ≡ reply.status)
-Refuses reply head_only written now WriteFault = AppendsFront written now (reply_text reply head_only true)
-Refuses reply head_only written now NoMemory = now ≡ written
-Refuses reply head_only written now Closed = ⊥
-Refuses reply head_only written now CutShort = ⊥
-Refuses reply head_only written now ReadFault = ⊥
-Refuses reply head_only written now Worn = ⊥
+abbrev pub Refuses : Reply → Bool → SinkTold → SinkTold → SessionEnd → Type 0
+Refuses reply head_only sink now (Refused s) = Appends sink.written now.written (reply_text reply head_only true) × (s ≡ reply.status)
+Refuses reply head_only sink now WriteFault = AppendsFront sink.written now.written (reply_text reply head_only true)
+Refuses reply head_only sink now NoMemory = now.written ≡ sink.written
+Refuses reply head_only sink now Closed = ⊥
+Refuses reply head_only sink now CutShort = ⊥
+Refuses reply head_only sink now ReadFault = ⊥
+Refuses reply head_only sink now Worn = ⊥
 
-abbrev pub RefuseCause : ℕ → ℕ → SessionEnd → Type 0
-RefuseCause writes now WriteFault = Rose writes now
-RefuseCause writes now end = now ≡ writes
+abbrev pub RefuseCause : SinkTold → SinkTold → SessionEnd → Type 0
+RefuseCause sink now WriteFault = Rose sink.faults now.faults
+RefuseCause sink now end = now.faults ≡ sink.faults
 
 -- the last text behind an end, where it has one of its own
-abbrev pub Finishes : SessionEnd → Option (List ℕ) → Option (List ℕ) → SessionEnd → Type 0
-Finishes NoMemory written now NoMemory = Appends written now unavailable_text
-Finishes NoMemory written now WriteFault = AppendsFront written now unavailable_text
-Finishes NoMemory written now Closed = ⊥
-Finishes NoMemory written now (Refused s) = ⊥
-Finishes NoMemory written now CutShort = ⊥
-Finishes NoMemory written now ReadFault = ⊥
-Finishes NoMemory written now Worn = ⊥
-Finishes Closed written now result = (result ≡ Closed) × (now ≡ written)
-Finishes (Refused s) written now result = (result ≡ Refused s) × (now ≡ written)
-Finishes CutShort written now result = (result ≡ CutShort) × (now ≡ written)
-Finishes ReadFault written now result = (result ≡ ReadFault) × (now ≡ written)
-Finishes WriteFault written now result = (result ≡ WriteFault) × (now ≡ written)
-Finishes Worn written now result = (result ≡ Worn) × (now ≡ written)
+abbrev pub Finishes : SessionEnd → SinkTold → SinkTold → SessionEnd → Type 0
+Finishes NoMemory sink now NoMemory = Appends sink.written now.written unavailable_text
+Finishes NoMemory sink now WriteFault = AppendsFront sink.written now.written unavailable_text
+Finishes NoMemory sink now Closed = ⊥
+Finishes NoMemory sink now (Refused s) = ⊥
+Finishes NoMemory sink now CutShort = ⊥
+Finishes NoMemory sink now ReadFault = ⊥
+Finishes NoMemory sink now Worn = ⊥
+Finishes Closed sink now result = (result ≡ Closed) × (now.written ≡ sink.written)
+Finishes (Refused s) sink now result = (result ≡ Refused s) × (now.written ≡ sink.written)
+Finishes CutShort sink now result = (result ≡ CutShort) × (now.written ≡ sink.written)
+Finishes ReadFault sink now result = (result ≡ ReadFault) × (now.written ≡ sink.written)
+Finishes WriteFault sink now result = (result ≡ WriteFault) × (now.written ≡ sink.written)
+Finishes Worn sink now result = (result ≡ Worn) × (now.written ≡ sink.written)
 
 -- the last text where the desk is worn
-abbrev pub Stops : Option (List ℕ) → Option (List ℕ) → SessionEnd → Type 0
-Stops written now Worn = Appends written now (stop_text stop.Worn)
-Stops written now WriteFault = AppendsFront written now (stop_text stop.Worn)
-Stops written now Closed = ⊥
-Stops written now (Refused s) = ⊥
-Stops written now CutShort = ⊥
-Stops written now ReadFault = ⊥
-Stops written now NoMemory = ⊥
+abbrev pub Stops : SinkTold → SinkTold → SessionEnd → Type 0
+Stops sink now Worn = Appends sink.written now.written (stop_text stop.Worn)
+Stops sink now WriteFault = AppendsFront sink.written now.written (stop_text stop.Worn)
+Stops sink now Closed = ⊥
+Stops sink now (Refused s) = ⊥
+Stops sink now CutShort = ⊥
+Stops sink now ReadFault = ⊥
+Stops sink now NoMemory = ⊥
 
 -- a count of the sink where only the last text was written
-abbrev pub FinishCause : ℕ → ℕ → SessionEnd → SessionEnd → Type 0
-FinishCause writes now NoMemory WriteFault = Rose writes now
-FinishCause writes now end result = now ≡ writes
+abbrev pub FinishCause : SinkTold → SinkTold → SessionEnd → SessionEnd → Type 0
+FinishCause sink now NoMemory WriteFault = Rose sink.faults now.faults
+FinishCause sink now end result = now.faults ≡ sink.faults
 
-abbrev pub StopCause : ℕ → ℕ → SessionEnd → Type 0
-StopCause writes now WriteFault = Rose writes now
-StopCause writes now result = now ≡ writes
+abbrev pub StopCause : SinkTold → SinkTold → SessionEnd → Type 0
+StopCause sink now WriteFault = Rose sink.faults now.faults
+StopCause sink now result = now.faults ≡ sink.faults

@@ -3,6 +3,7 @@
 use Rattle.std.specs.Prelude.{◌≡◌, ◌⊎◌, ℕ, ◌+◌, ◌<◌, Bool, false, List, [], ◌++◌, length, IsTrue, IsFalse, None, Some, IfSome, ⊤}
 use Rattle.std.specs.declared.option.Option.{Option}
 use Rattle.std.specs.Io.KnownBytes.{Appends, Consumes, IsAtEnd}
+use Rattle.outer_ends.specs.Told.{SourceTold, SinkTold}
 use Rattle.outer_ends.specs.Causes.{Rose}
 use Rattle.outer_ends.specs.Streams.{AppendsFront}
 use Rattle.http_messages.specs.declared.messages.Message.{Message}
@@ -12,6 +13,7 @@ use Rattle.http_messages.specs.declared.framings.Framing.TheVariants.{Chunked}
 use Rattle.http_messages.specs.declared.framings.RefusedRest.TheVariants.{BadChunk, LargeBody}
 use Rattle.http_messages.specs.declared.ends.SessionEnd.{SessionEnd}
 use Rattle.http_messages.specs.declared.ends.SessionEnd.TheVariants.{Closed, Refused, CutShort, ReadFault, WriteFault, NoMemory, Worn}
+use Rattle.http_messages.specs.declared.limits.TheConstants.{MESSAGE_LIMIT}
 use Rattle.http_messages.specs.ReplyText.{reply_text}
 use Rattle.http_model.specs.Framings.{closes, interim_of, is_head}
 use Rattle.http_model.specs.Bodies.{ReadsBody, IsCutBody, IsBadChunked, IsLargeChunked}
@@ -44,13 +46,13 @@ MessageOn seen left now sent found.ReadFault = (IsBetween seen × (sent ≡ []))
 MessageOn seen left now sent found.WriteFault = (early : List ℕ) × IsEarly seen early × IsProperPrefix sent early
 MessageOn seen left now sent found.NoMemory = IsEarly seen sent
 
-pub record TakesMessage (old now : List ℕ) (taken taken_now left left_now written written_now : Option (List ℕ)) (found : Taken) : Type 0 where
+pub record TakesMessage (old now : List ℕ) (source source_now : SourceTold) (sink sink_now : SinkTold) (found : Taken) : Type 0 where
   pub bytes : List ℕ
-  pub taken_more : Appends taken taken_now bytes
-  pub left_less : Consumes left left_now bytes
+  pub taken_more : Appends source.taken source_now.taken bytes
+  pub left_less : Consumes source.left source_now.left bytes
   pub sent : List ℕ
-  pub written_more : Appends written written_now sent
-  pub verdict : MessageOn (old ++ bytes) left_now now sent found
+  pub written_more : Appends sink.written sink_now.written sent
+  pub verdict : MessageOn (old ++ bytes) source_now.left now sent found
 
 -- the same of a head's body: what is left behind the head, and whether it is the body
 abbrev pub RestOn : Message → Framing → List ℕ → Option (List ℕ) → List ℕ → Taken → Type 0
@@ -65,16 +67,22 @@ RestOn head framing after left now found.NoMemory = Unit {0}
 RestOn head framing after left now found.End = ⊥
 RestOn head framing after left now found.WriteFault = ⊥
 
-pub record TakesRest (head : Message) (framing : Framing) (old now : List ℕ) (taken taken_now left left_now : Option (List ℕ)) (found : Taken) : Type 0 where
+pub record TakesRest (head : Message) (framing : Framing) (old now : List ℕ) (source source_now : SourceTold) (found : Taken) : Type 0 where
   pub bytes : List ℕ
-  pub taken_more : Appends taken taken_now bytes
-  pub left_less : Consumes left left_now bytes
-  pub verdict : RestOn head framing (old ++ bytes) left_now now found
+  pub taken_more : Appends source.taken source_now.taken bytes
+  pub left_less : Consumes source.left source_now.left bytes
+  pub verdict : RestOn head framing (old ++ bytes) source_now.left now found
 
-abbrev pub TakenCause : ℕ → ℕ → ℕ → ℕ → Taken → Type 0
-TakenCause reads reads_now writes writes_now found.ReadFault = Rose reads reads_now × (writes_now ≡ writes)
-TakenCause reads reads_now writes writes_now found.WriteFault = Rose writes writes_now × (reads_now ≡ reads)
-TakenCause reads reads_now writes writes_now found = (reads_now ≡ reads) × (writes_now ≡ writes)
+-- the same of a call that has no sink
+abbrev pub RestCause : SourceTold → SourceTold → Taken → Type 0
+RestCause source source_now found.ReadFault = Rose source.faults source_now.faults
+RestCause source source_now found.WriteFault = ⊥
+RestCause source source_now found = source_now.faults ≡ source.faults
+
+abbrev pub TakenCause : SourceTold → SourceTold → SinkTold → SinkTold → Taken → Type 0
+TakenCause source source_now sink sink_now found.ReadFault = Rose source.faults source_now.faults × (sink_now.faults ≡ sink.faults)
+TakenCause source source_now sink sink_now found.WriteFault = Rose sink.faults sink_now.faults × (source_now.faults ≡ source.faults)
+TakenCause source source_now sink sink_now found = (source_now.faults ≡ source.faults) × (sink_now.faults ≡ sink.faults)
 
 -- ---- some messages
 
@@ -117,14 +125,14 @@ pub record Asks (plans : TaskPlans) (i : ℕ) (seen : List ℕ) (now : SessionSt
   pub planned : plans.plan message ≡ planned_task task
   pub pending : now.pending ≡ Some (record { head_only = is_head message; close = closes message (now.answered + 1) })
   pub whole : sent ≡ text ++ interim_of message
-  pub few : now.answered < 1000000
+  pub few : now.answered < MESSAGE_LIMIT
 
 abbrev pub EndOn : TaskPlans → ℕ → List ℕ → Option (List ℕ) → ℕ → List ℕ → SessionEnd → Type 0
 EndOn plans i seen left answered sent NoMemory = RanOut plans i seen answered [] sent
 EndOn plans i seen left answered sent end = Settles plans i seen left false answered [] sent end
 
 abbrev pub StepOn : TaskPlans → ℕ → List ℕ → Option (List ℕ) → SessionState → List ℕ → Step → Type 0
-StepOn plans i seen left now sent step.Answered = Answers plans i seen now.answered now.buffer [] sent × (i < now.answered) × (now.answered < 1000000)
+StepOn plans i seen left now sent step.Answered = Answers plans i seen now.answered now.buffer [] sent × (i < now.answered) × (now.answered < MESSAGE_LIMIT)
 StepOn plans i seen left now sent (step.Task t) = Asks plans i seen now sent t
 StepOn plans i seen left now sent (step.Ended e) = EndOn plans i seen left now.answered sent e
 
@@ -133,22 +141,22 @@ NextOn plans i seen left now sent (next.Task t) = Asks plans i seen now sent t
 NextOn plans i seen left now sent (next.Ended e) = EndOn plans i seen left now.answered sent e
 
 pub record StepSees (plans : TaskPlans) (old now : SessionState)
-    (taken taken_now left left_now written written_now : Option (List ℕ)) (result : Step) : Type 0 where
+    (source source_now : SourceTold) (sink sink_now : SinkTold) (result : Step) : Type 0 where
   pub bytes : List ℕ
-  pub taken_more : Appends taken taken_now bytes
-  pub left_less : Consumes left left_now bytes
+  pub taken_more : Appends source.taken source_now.taken bytes
+  pub left_less : Consumes source.left source_now.left bytes
   pub sent : List ℕ
-  pub written_more : Appends written written_now sent
-  pub verdict : StepOn plans old.answered (old.buffer ++ bytes) left_now now sent result
+  pub written_more : Appends sink.written sink_now.written sent
+  pub verdict : StepOn plans old.answered (old.buffer ++ bytes) source_now.left now sent result
 
 pub record NextSees (plans : TaskPlans) (old now : SessionState)
-    (taken taken_now left left_now written written_now : Option (List ℕ)) (result : Next) : Type 0 where
+    (source source_now : SourceTold) (sink sink_now : SinkTold) (result : Next) : Type 0 where
   pub bytes : List ℕ
-  pub taken_more : Appends taken taken_now bytes
-  pub left_less : Consumes left left_now bytes
+  pub taken_more : Appends source.taken source_now.taken bytes
+  pub left_less : Consumes source.left source_now.left bytes
   pub sent : List ℕ
-  pub written_more : Appends written written_now sent
-  pub verdict : NextOn plans old.answered (old.buffer ++ bytes) left_now now sent result
+  pub written_more : Appends sink.written sink_now.written sent
+  pub verdict : NextOn plans old.answered (old.buffer ++ bytes) source_now.left now sent result
 
 -- the end of a call of next by all that stood there, of which taken was read by its end; where memory ran out the
 -- last text is still to come
@@ -157,36 +165,34 @@ EndOver plans i all taken answered sent NoMemory = RunsOut plans i all answered 
 EndOver plans i all taken answered sent end = Served plans i all taken false answered [] sent end
 
 pub record EndServes (plans : TaskPlans) (old now : SessionState)
-    (taken taken_now left left_now written written_now : Option (List ℕ)) (end : SessionEnd) : Type 0 where
+    (source source_now : SourceTold) (sink sink_now : SinkTold) (end : SessionEnd) : Type 0 where
   pub bytes : List ℕ
-  pub taken_more : Appends taken taken_now bytes
-  pub left_less : Consumes left left_now bytes
+  pub taken_more : Appends source.taken source_now.taken bytes
+  pub left_less : Consumes source.left source_now.left bytes
   pub sent : List ℕ
-  pub written_more : Appends written written_now sent
-  pub verdict : IfSome left (λ more. EndOver plans old.answered (old.buffer ++ more) (old.buffer ++ bytes) now.answered sent end)
+  pub written_more : Appends sink.written sink_now.written sent
+  pub verdict : IfSome source.left (λ more. EndOver plans old.answered (old.buffer ++ more) (old.buffer ++ bytes) now.answered sent end)
 
-abbrev pub NextServes : TaskPlans → SessionState → SessionState → Option (List ℕ) → Option (List ℕ) → Option (List ℕ) → Option (List ℕ) → Option (List ℕ)
-    → Option (List ℕ) → Next → Type 0
-NextServes plans old now taken taken_now left left_now written written_now (next.Task t) = Unit {0}
-NextServes plans old now taken taken_now left left_now written written_now (next.Ended e) =
-    EndServes plans old now taken taken_now left left_now written written_now e
+abbrev pub NextServes : TaskPlans → SessionState → SessionState → SourceTold → SourceTold → SinkTold → SinkTold → Next → Type 0
+NextServes plans old now source source_now sink sink_now (next.Task t) = Unit {0}
+NextServes plans old now source source_now sink sink_now (next.Ended e) = EndServes plans old now source source_now sink sink_now e
 
 -- ---- causes
 
 -- a fault is answered only where its count rose, and no other answer raises a count
-abbrev pub EndCause : ℕ → ℕ → ℕ → ℕ → SessionEnd → Type 0
-EndCause reads reads_now writes writes_now ReadFault = Rose reads reads_now × (writes_now ≡ writes)
-EndCause reads reads_now writes writes_now WriteFault = Rose writes writes_now × (reads_now ≡ reads)
-EndCause reads reads_now writes writes_now end = (reads_now ≡ reads) × (writes_now ≡ writes)
+abbrev pub EndCause : SourceTold → SourceTold → SinkTold → SinkTold → SessionEnd → Type 0
+EndCause source source_now sink sink_now ReadFault = Rose source.faults source_now.faults × (sink_now.faults ≡ sink.faults)
+EndCause source source_now sink sink_now WriteFault = Rose sink.faults sink_now.faults × (source_now.faults ≡ source.faults)
+EndCause source source_now sink sink_now end = (source_now.faults ≡ source.faults) × (sink_now.faults ≡ sink.faults)
 
-abbrev pub StepCause : ℕ → ℕ → ℕ → ℕ → Step → Type 0
-StepCause reads reads_now writes writes_now (step.Ended e) = EndCause reads reads_now writes writes_now e
-StepCause reads reads_now writes writes_now step.Answered = (reads_now ≡ reads) × (writes_now ≡ writes)
-StepCause reads reads_now writes writes_now (step.Task t) = (reads_now ≡ reads) × (writes_now ≡ writes)
+abbrev pub StepCause : SourceTold → SourceTold → SinkTold → SinkTold → Step → Type 0
+StepCause source source_now sink sink_now (step.Ended e) = EndCause source source_now sink sink_now e
+StepCause source source_now sink sink_now step.Answered = (source_now.faults ≡ source.faults) × (sink_now.faults ≡ sink.faults)
+StepCause source source_now sink sink_now (step.Task t) = (source_now.faults ≡ source.faults) × (sink_now.faults ≡ sink.faults)
 
-abbrev pub NextCause : ℕ → ℕ → ℕ → ℕ → Next → Type 0
-NextCause reads reads_now writes writes_now (next.Ended e) = EndCause reads reads_now writes writes_now e
-NextCause reads reads_now writes writes_now (next.Task t) = (reads_now ≡ reads) × (writes_now ≡ writes)
+abbrev pub NextCause : SourceTold → SourceTold → SinkTold → SinkTold → Next → Type 0
+NextCause source source_now sink sink_now (next.Ended e) = EndCause source source_now sink sink_now e
+NextCause source source_now sink sink_now (next.Task t) = (source_now.faults ≡ source.faults) × (sink_now.faults ≡ sink.faults)
 
 -- ---- tasks that are planned
 
@@ -202,18 +208,18 @@ FitNext fit (next.Ended e) = ⊤
 
 -- ---- the reply to what is pending
 
-abbrev pub Replies : Pending → Reply → SessionState → SessionState → Option (List ℕ) → Option (List ℕ) → Option SessionEnd → Type 0
-Replies p reply old now written written_now None =
-    Appends written written_now (reply_text reply p.head_only p.close) × IsFalse p.close × (now ≡ record old { answered = old.answered + 1; pending = None })
-Replies p reply old now written written_now (Some Closed) =
-    Appends written written_now (reply_text reply p.head_only p.close) × IsTrue p.close × (now ≡ record old { answered = old.answered + 1; pending = None })
-Replies p reply old now written written_now (Some WriteFault) =
-    AppendsFront written written_now (reply_text reply p.head_only p.close) × (now ≡ record old { pending = None })
-Replies p reply old now written written_now (Some end) = ⊥
+abbrev pub Replies : Pending → Reply → SessionState → SessionState → SinkTold → SinkTold → Option SessionEnd → Type 0
+Replies p reply old now sink sink_now None =
+    Appends sink.written sink_now.written (reply_text reply p.head_only p.close) × IsFalse p.close × (now ≡ record old { answered = old.answered + 1; pending = None })
+Replies p reply old now sink sink_now (Some Closed) =
+    Appends sink.written sink_now.written (reply_text reply p.head_only p.close) × IsTrue p.close × (now ≡ record old { answered = old.answered + 1; pending = None })
+Replies p reply old now sink sink_now (Some WriteFault) =
+    AppendsFront sink.written sink_now.written (reply_text reply p.head_only p.close) × (now ≡ record old { pending = None })
+Replies p reply old now sink sink_now (Some end) = ⊥
 
-abbrev pub ReplyCause : ℕ → ℕ → Option SessionEnd → Type 0
-ReplyCause writes writes_now (Some WriteFault) = Rose writes writes_now
-ReplyCause writes writes_now end = writes_now ≡ writes
+abbrev pub ReplyCause : SinkTold → SinkTold → Option SessionEnd → Type 0
+ReplyCause sink sink_now (Some WriteFault) = Rose sink.faults sink_now.faults
+ReplyCause sink sink_now end = sink_now.faults ≡ sink.faults
 
 -- ---- the whole
 
@@ -234,7 +240,7 @@ IfWorn NoMemory P = ⊤
 -- behind the call the desk stands for lists that begin with the old ones, and what was written is served by the
 -- entries that joined its own
 pub record Serves (plans : TaskPlans) (stands : List Entry → List Entry → Type 0) (first : ℕ) (seen mine : List Entry)
-    (taken taken_now left left_now written written_now : Option (List ℕ)) (answered : ℕ) (end : SessionEnd) : Type 0 where
+    (source source_now : SourceTold) (sink sink_now : SinkTold) (answered : ℕ) (end : SessionEnd) : Type 0 where
   pub others : List Entry
   pub entries : List Entry
   pub stood : stands (seen ++ others) (mine ++ entries)
@@ -243,8 +249,8 @@ pub record Serves (plans : TaskPlans) (stands : List Entry → List Entry → Ty
   -- also where the source does not tell its bytes
   pub ends_worn : IfWorn end (IsTrue worn)
   pub bytes : List ℕ
-  pub taken_more : Appends taken taken_now bytes
-  pub left_less : Consumes left left_now bytes
+  pub taken_more : Appends source.taken source_now.taken bytes
+  pub left_less : Consumes source.left source_now.left bytes
   pub out : List ℕ
-  pub written_more : Appends written written_now out
-  pub served : IfSome left (λ all. Served plans 0 all bytes worn answered entries out end)
+  pub written_more : Appends sink.written sink_now.written out
+  pub served : IfSome source.left (λ all. Served plans 0 all bytes worn answered entries out end)

@@ -32,8 +32,8 @@ struct Ending {
 
 /// Writes the text for want of memory behind that end.
 fn finish<K: Sink>(end: SessionEnd, sink: &mut K) -> SessionEnd
-    ensures sends { Finishes end (K.written sink.old) (K.written sink.new) result }
-    ensures cause { FinishCause (K.faults sink.old) (K.faults sink.new) end result }
+    ensures sends { Finishes end (K.told sink.old) (K.told sink.new) result }
+    ensures cause { FinishCause (K.told sink.old) (K.told sink.new) end result }
 {
     match end {
         SessionEnd::NoMemory => match send_unavailable(sink) {
@@ -51,8 +51,8 @@ fn finish<K: Sink>(end: SessionEnd, sink: &mut K) -> SessionEnd
 
 /// Writes the text for a worn desk.
 fn stop<K: Sink>(sink: &mut K) -> SessionEnd
-    ensures sends { Stops (K.written sink.old) (K.written sink.new) result }
-    ensures cause { StopCause (K.faults sink.old) (K.faults sink.new) result }
+    ensures sends { Stops (K.told sink.old) (K.told sink.new) result }
+    ensures cause { StopCause (K.told sink.old) (K.told sink.new) result }
 {
     match send_stop(Stop::Worn, sink) {
         Ok(()) => SessionEnd::Worn,
@@ -75,8 +75,8 @@ fn serve<S: Source, K: Sink, P: Planner, D: Desk>(
     ensures few { result.entries ≤ 1000000 }
     ensures serves { (first : ℕ) (w : World) (seen mine : List StoreEntry) → D.stands desk.old first w seen mine →
         Serves (plans_of (P.planned planner.now)) (Counted (D.stands desk.new first w) (length mine + result.entries)) first seen mine
-        (S.taken source.old) (S.taken source.new) (S.left source.old) (S.left source.new) (K.written sink.old) (K.written sink.new) session.new.answered result.end }
-    ensures cause { EndCause (S.faults source.old) (S.faults source.new) (K.faults sink.old) (K.faults sink.new) result.end }
+        (S.told source.old) (S.told source.new) (K.told sink.old) (K.told sink.new) session.new.answered result.end }
+    ensures cause { EndCause (S.told source.old) (S.told source.new) (K.told sink.old) (K.told sink.new) result.end }
 {
     read_stays();
     let mut entries = 0;
@@ -125,8 +125,8 @@ pub fn drive_counted<S: Source, K: Sink, P: Planner, D: Desk>(
     // messages of the input are to be sent, by the entries that joined, which are as many as is said.
     ensures serves { (first : ℕ) (w : World) (seen mine : List StoreEntry) → D.stands desk.old first w seen mine →
         Serves (plans_of (P.planned planner.now)) (Counted (D.stands desk.new first w) (length mine + result.entries)) first seen mine
-        (S.taken source.old) (S.taken source.new) (S.left source.old) (S.left source.new) (K.written sink.old) (K.written sink.new) result.answered result.end }
-    ensures cause { EndCause (S.faults source.old) (S.faults source.new) (K.faults sink.old) (K.faults sink.new) result.end }
+        (S.told source.old) (S.told source.new) (K.told sink.old) (K.told sink.new) result.answered result.end }
+    ensures cause { EndCause (S.told source.old) (S.told source.new) (K.told sink.old) (K.told sink.new) result.end }
 {
     read_stays();
     let Ok(mut session) = Session::new(alloc, limits) else {
@@ -158,8 +158,8 @@ pub fn drive<S: Source, K: Sink, P: Planner, D: Desk>(
     ensures fixed { D.fixed desk.new ≡ D.fixed desk.old }
     ensures serves { (first : ℕ) (w : World) (seen mine : List StoreEntry) → D.stands desk.old first w seen mine →
         (answered : ℕ) × Serves (plans_of (P.planned planner.now)) (D.stands desk.new first w) first seen mine
-        (S.taken source.old) (S.taken source.new) (S.left source.old) (S.left source.new) (K.written sink.old) (K.written sink.new) answered result }
-    ensures cause { EndCause (S.faults source.old) (S.faults source.new) (K.faults sink.old) (K.faults sink.new) result }
+        (S.told source.old) (S.told source.new) (K.told sink.old) (K.told sink.new) answered result }
+    ensures cause { EndCause (S.told source.old) (S.told source.new) (K.told sink.old) (K.told sink.new) result }
 {
     drive_counted(alloc, limits, planner, source, sink, desk).end
 }

@@ -3,7 +3,7 @@ ghost use Rattle.outer_ends.specs.Causes.{HasCause};
 ghost use Rattle.outer_ends.specs.Streams.{Sends};
 ghost use Rattle.http_messages.specs.ReplyText.{interim_text};
 ghost use Rattle.http_bodies.specs.Body.{FitsLimit};
-ghost use Rattle.session_engine.specs.Seen.{TakesMessage, TakesRest, TakenCause};
+ghost use Rattle.session_engine.specs.Seen.{TakesMessage, TakesRest, TakenCause, RestCause};
 
 use http_bodies::{BodyEnd, take_body};
 use http_framing::{Buffer, HeadEnd, expects_continue, is_head, judge_head, take_head};
@@ -33,8 +33,8 @@ pub enum Taken {
 
 /// Writes the text that asks for a body, where it is to be.
 fn send_interim<K: Sink>(asks: bool, sink: &mut K) -> Result<(), Failed>
-    ensures sends { Sends (K.written sink.old) (K.written sink.new) (if asks then interim_text else []) result }
-    ensures cause { HasCause (K.faults sink.old) (K.faults sink.new) result }
+    ensures sends { Sends (K.told sink.old) (K.told sink.new) (if asks then interim_text else []) result }
+    ensures cause { HasCause (K.told sink.old).faults (K.told sink.new).faults result }
 {
     if asks { send_continue(sink) } else { Ok(()) }
 }
@@ -48,8 +48,8 @@ fn take_rest<S: Source>(
     framing: Framing,
 ) -> Taken
     requires { FitsLimit framing }
-    ensures takes { TakesRest head framing buffer.old buffer.new (S.taken source.old) (S.taken source.new) (S.left source.old) (S.left source.new) result }
-    ensures cause { TakenCause (S.faults source.old) (S.faults source.new) 0 0 result }
+    ensures takes { TakesRest head framing buffer.old buffer.new (S.told source.old) (S.told source.new) result }
+    ensures cause { RestCause (S.told source.old) (S.told source.new) result }
 {
     let mut message = head;
     match take_body(alloc, source, buffer, framing) {
@@ -72,8 +72,8 @@ pub fn take_message<S: Source, K: Sink>(
     buffer: &mut Buffer,
     sink: &mut K,
 ) -> Taken
-    ensures takes { TakesMessage buffer.old buffer.new (S.taken source.old) (S.taken source.new) (S.left source.old) (S.left source.new) (K.written sink.old) (K.written sink.new) result }
-    ensures cause { TakenCause (S.faults source.old) (S.faults source.new) (K.faults sink.old) (K.faults sink.new) result }
+    ensures takes { TakesMessage buffer.old buffer.new (S.told source.old) (S.told source.new) (K.told sink.old) (K.told sink.new) result }
+    ensures cause { TakenCause (S.told source.old) (S.told source.new) (K.told sink.old) (K.told sink.new) result }
 {
     heads_are_decided();
     read_stays();

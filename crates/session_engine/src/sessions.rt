@@ -99,8 +99,8 @@ fn refusal_reply(alloc: Global, why: RefusedRest) -> Result<Reply, NoMemory>
 
 /// Writes the reply to a rest that is refused.
 fn refuse<K: Sink>(alloc: Global, why: RefusedRest, head_only: bool, sink: &mut K) -> SessionEnd
-    ensures sends { Refuses (refusal_of why) head_only (K.written sink.old) (K.written sink.new) result }
-    ensures cause { RefuseCause (K.faults sink.old) (K.faults sink.new) result }
+    ensures sends { Refuses (refusal_of why) head_only (K.told sink.old) (K.told sink.new) result }
+    ensures cause { RefuseCause (K.told sink.old) (K.told sink.new) result }
 {
     match refusal_reply(alloc, why) {
         Err(NoMemory) => SessionEnd::NoMemory,
@@ -141,8 +141,8 @@ impl Session {
         sink: &mut K,
     ) -> Option<SessionEnd>
         requires { self.old.answered < 1000000 }
-        ensures sends { Replies pending reply.now self.old self.new (K.written sink.old) (K.written sink.new) result }
-        ensures cause { ReplyCause (K.faults sink.old) (K.faults sink.new) result }
+        ensures sends { Replies pending reply.now self.old self.new (K.told sink.old) (K.told sink.new) result }
+        ensures cause { ReplyCause (K.told sink.old) (K.told sink.new) result }
     {
         self.pending = None;
         match send_reply(reply, pending.head_only, pending.close, sink) {
@@ -163,8 +163,8 @@ impl Session {
     pub fn send<K: Sink>(&mut self, reply: &Reply, sink: &mut K) -> Option<SessionEnd>
         requires pending { IsSome self.old.pending }
         requires few { self.old.answered < 1000000 }
-        ensures sends { IfSome self.old.pending (λ p. Replies p reply.now self.old self.new (K.written sink.old) (K.written sink.new) result) }
-        ensures cause { ReplyCause (K.faults sink.old) (K.faults sink.new) result }
+        ensures sends { IfSome self.old.pending (λ p. Replies p reply.now self.old self.new (K.told sink.old) (K.told sink.new) result) }
+        ensures cause { ReplyCause (K.told sink.old) (K.told sink.new) result }
     {
         match self.pending {
             Some(pending) => self.reply(pending, reply, sink),
@@ -181,9 +181,9 @@ impl Session {
         sink: &mut K,
     ) -> Step
         requires { self.old.answered < 1000000 }
-        ensures sees { StepSees (plans_of (P.planned planner.now)) self.old self.new (S.taken source.old) (S.taken source.new) (S.left source.old) (S.left source.new) (K.written sink.old) (K.written sink.new) result }
+        ensures sees { StepSees (plans_of (P.planned planner.now)) self.old self.new (S.told source.old) (S.told source.new) (K.told sink.old) (K.told sink.new) result }
         ensures fit { FitStep (P.fit planner.now) result }
-        ensures cause { StepCause (S.faults source.old) (S.faults source.new) (K.faults sink.old) (K.faults sink.new) result }
+        ensures cause { StepCause (S.told source.old) (S.told source.new) (K.told sink.old) (K.told sink.new) result }
     {
         match take_message(alloc, source, &mut self.buffer, sink) {
             Taken::Whole(message) => {
@@ -223,11 +223,11 @@ impl Session {
     ) -> Next
         requires { self.old.answered < 1000000 }
         // by the bytes that were seen, of any source,
-        ensures sees { NextSees (plans_of (P.planned planner.now)) self.old self.new (S.taken source.old) (S.taken source.new) (S.left source.old) (S.left source.new) (K.written sink.old) (K.written sink.new) result }
+        ensures sees { NextSees (plans_of (P.planned planner.now)) self.old self.new (S.told source.old) (S.told source.new) (K.told sink.old) (K.told sink.new) result }
         // and by all that stood there, where the source tells it
-        ensures rest { NextServes (plans_of (P.planned planner.now)) self.old self.new (S.taken source.old) (S.taken source.new) (S.left source.old) (S.left source.new) (K.written sink.old) (K.written sink.new) result }
+        ensures rest { NextServes (plans_of (P.planned planner.now)) self.old self.new (S.told source.old) (S.told source.new) (K.told sink.old) (K.told sink.new) result }
         ensures fit { FitNext (P.fit planner.now) result }
-        ensures cause { NextCause (S.faults source.old) (S.faults source.new) (K.faults sink.old) (K.faults sink.new) result }
+        ensures cause { NextCause (S.told source.old) (S.told source.new) (K.told sink.old) (K.told sink.new) result }
     {
         read_stays();
         'answering: loop {

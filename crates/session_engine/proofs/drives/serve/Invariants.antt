@@ -7,11 +7,11 @@ use Rattle.session_engine.proofs.drives.serve.Given as goal
 abbrev pub invariant-serving : goal.invariant-serving
 invariant-serving g l = record {
   fixed : g.D.Desk.fixed l.desk ≡ g.D.Desk.fixed l.fn.desk;
-  so_far : (base : ℕ) → Serving (plans_of (g.P.Planner.planned l.planner)) (CountedFrom (g.D.Desk.stands l.fn.desk) base) (CountedFrom (g.D.Desk.stands l.desk) (base + l.entries)) l.session (g.S.Source.taken l.fn.source) (g.S.Source.taken l.source) (g.S.Source.left l.fn.source) (g.S.Source.left l.source) (g.K.Sink.written l.fn.sink) (g.K.Sink.written l.sink);
+  so_far : (base : ℕ) → Serving (plans_of (g.P.Planner.planned l.planner)) (CountedFrom (g.D.Desk.stands l.fn.desk) base) (CountedFrom (g.D.Desk.stands l.desk) (base + l.entries)) l.session (g.S.Source.told l.fn.source) (g.S.Source.told l.source) (g.K.Sink.told l.fn.sink) (g.K.Sink.told l.sink);
   answered : l.session.answered < 1000000;
   made : l.entries ≤ l.session.answered;
-  reads : g.S.Source.faults l.source ≡ g.S.Source.faults l.fn.source;
-  writes : g.K.Sink.faults l.sink ≡ g.K.Sink.faults l.fn.sink;
+  reads : (g.S.Source.told l.source).faults ≡ (g.S.Source.told l.fn.source).faults;
+  writes : (g.K.Sink.told l.sink).faults ≡ (g.K.Sink.told l.fn.sink).faults;
 }
 
 abbrev pub decreases-serving : goal.decreases-serving
