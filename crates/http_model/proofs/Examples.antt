@@ -22,7 +22,7 @@ use Rattle.http_model.specs.Hopeless.{target_so_far, start_of, after_lines}
 use Rattle.http_model.specs.Blanks.{empty_lines}
 use Rattle.http_model.specs.Targets.{has_visible_target}
 use Rattle.http_model.specs.Heads.{is_visible}
-use Rattle.http_model.specs.Requests.{LastCloses}
+use Rattle.http_model.specs.Requests.{LastMessageCloses}
 use Rattle.http_messages.specs.declared.limits.TheConstants.{CHUNK_LINE_LIMIT, FIELD_LIMIT, HEAD_LIMIT, TRAILER_LIMIT}
 
 abbrev field : List ℕ → List ℕ → MessageField
@@ -489,21 +489,21 @@ plain_post = post 1 (the_host ∷ [])
 never : false ≡ true → ⊥
 never e = cc
 
-last_one_closes : LastCloses 999999 (plain_post ∷ [])
+last_one_closes : LastMessageCloses 999999 (plain_post ∷ [])
 unfolding closes comma_parts trim_ows
 last_one_closes = inl (refl, refl)
 
-second_closes : LastCloses 999998 (plain_post ∷ plain_post ∷ [])
+second_closes : LastMessageCloses 999998 (plain_post ∷ plain_post ∷ [])
 unfolding closes comma_parts trim_ows
 second_closes = inr (inl (refl, refl))
 
-first_does_not : LastCloses 999998 (plain_post ∷ []) → ⊥
+first_does_not : LastMessageCloses 999998 (plain_post ∷ []) → ⊥
 unfolding closes comma_parts trim_ows
 first_does_not (inl (e, t)) = never t
 first_does_not (inr later) = later
 
 -- a message that closes, and another behind it
-not_the_last : LastCloses 0 (post 0 [] ∷ plain_post ∷ []) → ⊥
+not_the_last : LastMessageCloses 0 (post 0 [] ∷ plain_post ∷ []) → ⊥
 unfolding closes comma_parts trim_ows
 not_the_last (inl (e, t)) = cc
 not_the_last (inr (inl (e, t))) = never t

@@ -5,7 +5,7 @@ use Rattle.std.proofs.lemmas.List.Elements.{All-head, All-tail}
 use Rattle.http_messages.specs.declared.messages.Message.{Message}
 use Rattle.http_messages.specs.declared.messages.Reply.{Reply}
 use Rattle.http_model.specs.Framings.{closes}
-use Rattle.http_model.specs.Requests.{ReadsMessage, ReadsMessages, LastCloses as LastMessageCloses, HasNoMessage, AreRequests}
+use Rattle.http_model.specs.Requests.{ReadsMessage, ReadsMessages, LastMessageCloses, HasNoMessage, AreRequests}
 use Rattle.http_model.specs.Exchanges.{Planned, planned_reply, planned_task, Plans, Exchange, IsAnswer, Runs, closes_by, StaysOpen, LastCloses, IsWhole, entries_of}
 use Rattle.http_model.proofs.Requests.{message_unique, not_both}
 

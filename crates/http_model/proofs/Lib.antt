@@ -10,3 +10,4 @@ pub mod ExchangesLaw
 pub mod ServedLaw
 mod Examples
 mod SessionExamples
+pub mod TasksLaw

@@ -16,7 +16,7 @@ use Rattle.http_messages.specs.declared.framings.Framing.TheVariants.{Empty, Len
 use Rattle.http_messages.specs.declared.framings.HeadFault.{HeadFault}
 use Rattle.http_model.specs.Framings.{framing_of, closes}
 use Rattle.http_model.specs.Bodies.{ReadsBody, Chunk, IsChunk, print_chunks, content_of, ReadsChunked}
-use Rattle.http_model.specs.Requests.{ReadsWholeHead, ReadsMessage, ReadsMessages, LastCloses, HasNoMessage, AreRequests}
+use Rattle.http_model.specs.Requests.{ReadsWholeHead, ReadsMessage, ReadsMessages, LastMessageCloses, HasNoMessage, AreRequests}
 
 -- ---- heads
 
@@ -155,12 +155,12 @@ pub requests_unique : (i : ℕ) (bytes : List ℕ) (ms ns : List Message) (r q :
 requests_unique i bytes [] [] r q x y = (refl, sym x.reads ∙ y.reads)
 requests_unique i bytes [] (n ∷ ns) r q x y = absurd (none x.longest)
   where
-    none : LastCloses i [] ⊎ HasNoMessage r → ⊥
+    none : LastMessageCloses i [] ⊎ HasNoMessage r → ⊥
     none (inl h) = h
     none (inr h) = h n y.reads.0 (subst (λ (l : List ℕ). ReadsMessage l n y.reads.0) x.reads y.reads.1)
 requests_unique i bytes (m ∷ ms) [] r q x y = absurd (none y.longest)
   where
-    none : LastCloses i [] ⊎ HasNoMessage q → ⊥
+    none : LastMessageCloses i [] ⊎ HasNoMessage q → ⊥
     none (inl h) = h
     none (inr h) = h m x.reads.0 (subst (λ (l : List ℕ). ReadsMessage l m x.reads.0) y.reads x.reads.1)
 requests_unique i bytes (m ∷ ms) (n ∷ ns) r q x y =
@@ -169,8 +169,8 @@ requests_unique i bytes (m ∷ ms) (n ∷ ns) r q x y =
     (subst (λ (l : List ℕ). ReadsMessages (i + 1) l ms r) first.1 x.reads.3) (ends m ms r x.longest) (ends n ns q y.longest) in
     (joined first.0 rest.0, rest.1)
   where
-    ends : (k : Message) (ks : List Message) (l : List ℕ) → LastCloses i (k ∷ ks) ⊎ HasNoMessage l
-        → ((ks ≡ []) × IsTrue (closes k (i + 1))) ⊎ (LastCloses (i + 1) ks ⊎ HasNoMessage l)
+    ends : (k : Message) (ks : List Message) (l : List ℕ) → LastMessageCloses i (k ∷ ks) ⊎ HasNoMessage l
+        → ((ks ≡ []) × IsTrue (closes k (i + 1))) ⊎ (LastMessageCloses (i + 1) ks ⊎ HasNoMessage l)
     ends k ks l (inl (inl h)) = inl h
     ends k ks l (inl (inr h)) = inr (inl h)
     ends k ks l (inr h) = inr (inr h)
@@ -183,8 +183,8 @@ requests_unique i bytes (m ∷ ms) (n ∷ ns) r q x y =
 
     at : (AreRequests (i + 1) y.reads.0 ms r → AreRequests (i + 1) y.reads.0 ns q → (ms ≡ ns) × (r ≡ q)) → m ≡ n
         → ReadsMessages (i + 1) y.reads.0 ms r
-        → ((ms ≡ []) × IsTrue (closes m (i + 1))) ⊎ (LastCloses (i + 1) ms ⊎ HasNoMessage r)
-        → ((ns ≡ []) × IsTrue (closes n (i + 1))) ⊎ (LastCloses (i + 1) ns ⊎ HasNoMessage q)
+        → ((ms ≡ []) × IsTrue (closes m (i + 1))) ⊎ (LastMessageCloses (i + 1) ms ⊎ HasNoMessage r)
+        → ((ns ≡ []) × IsTrue (closes n (i + 1))) ⊎ (LastMessageCloses (i + 1) ns ⊎ HasNoMessage q)
         → (ms ≡ ns) × (r ≡ q)
     at next e h (inl (p, closing)) other = goes y.reads.2
       where

@@ -12,3 +12,5 @@ pub mod Refusals
 pub mod Exchanges
 pub mod Served
 pub mod Laws
+pub mod Tasks
+pub mod SessionLaws

@@ -34,9 +34,9 @@ ReadsMessages i bytes (m ∷ ms) rest =
     (middle : List ℕ) × ReadsMessage bytes m middle × ((ms ≡ []) ⊎ IsFalse (closes m (i + 1))) × ReadsMessages (i + 1) middle ms rest
 
 -- the last of the messages closes, i messages having come before them
-abbrev pub LastCloses : ℕ → List Message → Type 0
-LastCloses i [] = ⊥
-LastCloses i (m ∷ ms) = ((ms ≡ []) × IsTrue (closes m (i + 1))) ⊎ LastCloses (i + 1) ms
+abbrev pub LastMessageCloses : ℕ → List Message → Type 0
+LastMessageCloses i [] = ⊥
+LastMessageCloses i (m ∷ ms) = ((ms ≡ []) × IsTrue (closes m (i + 1))) ⊎ LastMessageCloses (i + 1) ms
 
 -- no message begins the bytes
 abbrev pub HasNoMessage : List ℕ → Type 0
@@ -45,4 +45,4 @@ HasNoMessage bytes = (m : Message) (rest : List ℕ) → ¬ (ReadsMessage bytes 
 -- the longest list of messages that stand one after another, of which none but the last closes, and what follows them
 pub record AreRequests (i : ℕ) (bytes : List ℕ) (ms : List Message) (rest : List ℕ) : Type 0 where
   pub reads : ReadsMessages i bytes ms rest
-  pub longest : LastCloses i ms ⊎ HasNoMessage rest
+  pub longest : LastMessageCloses i ms ⊎ HasNoMessage rest

@@ -1,15 +1,13 @@
-ghost use Rattle.std.specs.Prelude.{◌≡◌, ℕ, ◌+◌, Bool, List, ◌++◌, length, map};
+ghost use Rattle.std.specs.Prelude.{◌≡◌, ℕ, ◌+◌, List, ◌++◌, length, map};
 ghost use Rattle.http_messages.specs.declared.messages.Message.{Message};
 ghost use Rattle.http_messages.specs.declared.framings.Framing.{Framing};
-ghost use Rattle.http_messages.specs.declared.ends.SessionEnd.TheVariants.{ReadFault, NoMemory};
-ghost use Rattle.http_messages.specs.ReplyText.{unavailable_text};
 ghost use Rattle.http_model.specs.Hopeless.{RuleAgrees};
 ghost use Rattle.http_model.specs.Bodies.{BodyKind, IsBodyKind};
-ghost use Rattle.http_model.specs.Requests.{AreRequests};
+ghost use Rattle.http_model.specs.Requests.{ReadsMessage, AreRequests};
 ghost use Rattle.http_model.specs.Rests.{HeadKind, IsHeadKind, RestKind, IsRest};
 ghost use Rattle.http_model.specs.Exchanges.{Plans, Exchange, Runs, IsWhole};
-ghost use Rattle.http_model.specs.Served.{Served, RunsOut, InputEnd, end_of};
 ghost use Rattle.http_model.specs.Laws.{HeadsDecided, ReadStays, NoMessageBegins};
+ghost use Rattle.http_model.specs.SessionLaws.{ServedAreRequests, FailedAreRequests, ServedIsOne, EntriesAreTasks, MemoryRunsOut};
 
 // ---- what stands in some bytes is one thing
 
@@ -24,6 +22,13 @@ pub fn heads_are_one()
 pub fn bodies_are_one()
     ensures { (framing : Framing) (bytes : List ℕ) (one other : BodyKind) → IsBodyKind framing bytes one → IsBodyKind framing bytes other → one ≡ other }
 {}
+
+/// A message at the front of some bytes is one, and so is what stands behind it.
+pub fn messages_are_one()
+    ensures { (bytes : List ℕ) (m n : Message) (r q : List ℕ) → ReadsMessage bytes m r → ReadsMessage bytes n q → (m ≡ n) × (r ≡ q) }
+{
+    requests_are_one();
+}
 
 /// A stream has one list of messages, and one rest.
 pub fn requests_are_one()
@@ -76,11 +81,9 @@ pub fn exchanges_are_requests<T, E>()
     ensures all { (plans : Plans T E) (i : ℕ) (bytes : List ℕ) (xs : List (Exchange E)) (j : ℕ) (rest : List ℕ)
         → Runs plans i bytes xs j rest → IsWhole xs rest → AreRequests i bytes (map (λ x. x.message) xs) rest }
     // So they are where the input decides the end,
-    ensures served { (plans : Plans T E) (i : ℕ) (bytes taken : List ℕ) (worn : Bool) (j : ℕ) (entries : List E) (out : List ℕ) (end : InputEnd)
-        → (s : Served plans i bytes taken worn j entries out (end_of end)) → AreRequests i bytes (map (λ x. x.message) s.exchanges) s.rest }
+    ensures served { ServedAreRequests T E }
     // and so they are of the bytes that were taken where the source failed.
-    ensures failed { (plans : Plans T E) (i : ℕ) (bytes taken : List ℕ) (worn : Bool) (j : ℕ) (entries : List E) (out : List ℕ)
-        → (s : Served plans i bytes taken worn j entries out ReadFault) → AreRequests i taken (map (λ x. x.message) s.exchanges) s.rest }
+    ensures failed { FailedAreRequests T E }
     ensures counted { (plans : Plans T E) (i : ℕ) (bytes : List ℕ) (xs : List (Exchange E)) (j : ℕ) (rest : List ℕ)
         → Runs plans i bytes xs j rest → j ≡ i + length xs }
 {}
@@ -88,13 +91,18 @@ pub fn exchanges_are_requests<T, E>()
 /// Where the input decides the end, it and the entries decide what is sent, the end and how many messages
 /// were answered.
 pub fn served_is_one<T, E>()
-    ensures { (plans : Plans T E) (i : ℕ) (bytes t u : List ℕ) (v w : Bool) (j k : ℕ) (entries : List E) (a b : List ℕ) (one other : InputEnd)
-        → Served plans i bytes t v j entries a (end_of one) → Served plans i bytes u w k entries b (end_of other)
-        → (a ≡ b) × (one ≡ other) × (j ≡ k) }
+    ensures { ServedIsOne T E }
 {}
+
+/// The entries that a session made are of the first tasks of its messages, in their order, unless an end failed or the
+/// store was worn.
+pub fn entries_are_tasks<T, E>()
+    ensures { EntriesAreTasks T E }
+{
+    requests_are_one();
+}
 
 /// Where memory ran out and the text that says so is then sent, the session has ended for want of memory.
 pub fn memory_runs_out<T, E>()
-    ensures { (plans : Plans T E) (i : ℕ) (taken untaken : List ℕ) (worn : Bool) (j : ℕ) (entries : List E) (out : List ℕ)
-        → RunsOut plans i (taken ++ untaken) j entries out → Served plans i (taken ++ untaken) taken worn j entries (out ++ unavailable_text) NoMemory }
+    ensures { MemoryRunsOut T E }
 {}

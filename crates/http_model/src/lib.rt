@@ -7,7 +7,7 @@
 mod laws;
 
 pub use laws::{
-    bodies_are_one, exchanges_are_requests, heads_are_decided, heads_are_one, hopeless_by_rule,
-    memory_runs_out, no_message_begins, read_stays, requests_are_one, rests_are_one, runs_stay,
-    served_is_one,
+    bodies_are_one, entries_are_tasks, exchanges_are_requests, heads_are_decided, heads_are_one,
+    hopeless_by_rule, memory_runs_out, messages_are_one, no_message_begins, read_stays,
+    requests_are_one, rests_are_one, runs_stay, served_is_one,
 };

@@ -1,5 +1,5 @@
 -- What a desk stands for after a call.
-use Rattle.std.specs.Prelude.{◌≡◌, ℕ, ◌+◌, ◌^◌, List, [], ◌∷◌, ◌++◌, length, ⊤}
+use Rattle.std.specs.Prelude.{◌≡◌, ℕ, ◌+◌, ◌^◌, Bool, List, [], ◌∷◌, ◌++◌, filter, length, ⊤}
 use Rattle.http_messages.specs.declared.messages.Reply.{Reply}
 use Rattle.task_forms.specs.declared.tasks.Entry.{Entry}
 use Rattle.task_forms.specs.declared.tasks.Task.{Task}
@@ -9,6 +9,10 @@ use Rattle.task_forms.specs.declared.desk.DeskEnd.TheVariants.{NoMemory, Worn}
 -- the number of the last entry that a history can have
 abbrev pub last_number : ℕ
 last_number = 2 ^ 62
+
+-- a desk's own entries are exactly those of what it has seen that pass its test
+abbrev pub IsOwn : (Entry → Bool) → List Entry → List Entry → Type 0
+IsOwn is_own seen mine = mine ≡ filter is_own seen
 
 abbrev pub IsWornEnd : DeskEnd → Type 0
 IsWornEnd Worn = ⊤

@@ -11,13 +11,13 @@ pub enum DeskEnd {
 }
 
 /// Answers tasks, each by one entry of one history. A desk stands for two lists of entries: `seen`, a legal history that
-/// begins after a number and in a world, and `mine`, the entries of `seen` that were made by it.
+/// begins after a number and in a world, and `mine`, the entries of `seen` that were made by it, which it knows by a test.
 pub trait Desk {
-    ghost use Rattle.std.specs.Prelude.{◌≡◌, ℕ, List, IfOk, IfErr};
+    ghost use Rattle.std.specs.Prelude.{◌≡◌, ℕ, Bool, List, IfOk, IfErr};
     ghost use Rattle.world_cells.specs.World.{World};
     ghost use Rattle.task_forms.specs.declared.tasks.Entry.{Entry};
     ghost use Rattle.task_forms.specs.Meaning.{Meaning, IsLegal};
-    ghost use Rattle.task_forms.specs.Desks.{Joins, Refuses};
+    ghost use Rattle.task_forms.specs.Desks.{IsOwn, Joins, Refuses};
 
     /// What no call changes, as plain data.
     type Fixed;
@@ -26,6 +26,8 @@ pub trait Desk {
     ghost fixed: { Self → Self.Fixed };
     /// What tasks mean to it.
     ghost meaning: { Self.Fixed → Meaning };
+    /// Which entries are its own. Those of a desk alone are all, and those of a desk beside others have its numbers.
+    ghost is_own: { Self.Fixed → Entry → Bool };
     /// After this number and from this world, it stands for what was seen and for its own.
     ghost stands: { Self → ℕ → World → List Entry → List Entry → Type 0 };
 
@@ -39,4 +41,7 @@ pub trait Desk {
 
     /// What it has seen is legal.
     ghost legal: { (d : Self) (first : ℕ) (w : World) (seen mine : List Entry) → stands d first w seen mine → IsLegal (meaning (fixed d)) w seen };
+
+    /// Its own are exactly those of what it has seen that pass the test: no change of its own is among those of others.
+    ghost own: { (d : Self) (first : ℕ) (w : World) (seen mine : List Entry) → stands d first w seen mine → IsOwn (is_own (fixed d)) seen mine };
 }
