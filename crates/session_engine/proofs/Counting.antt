@@ -10,8 +10,8 @@ use Rattle.task_forms.specs.declared.desk.DeskEnd.{DeskEnd}
 use Rattle.task_forms.specs.Desks.{Joins, Refuses}
 use Rattle.session_engine.specs.Plans.{TaskPlans}
 use Rattle.session_engine.specs.States.{SessionState}
-use Rattle.session_engine.specs.Seen.{Serves, Counted}
-use Rattle.session_engine.proofs.Serving.{Standing, Serving, serving_none}
+use Rattle.session_engine.specs.Seen.{Serves, Counted, Standing}
+use Rattle.session_engine.proofs.Serving.{Serving, serving_none}
 
 -- what a desk stands for, where its own entries are so many
 abbrev pub CountedFrom : Standing → ℕ → ℕ → World → List Entry → List Entry → Type 0

@@ -7,3 +7,4 @@ mod Loops
 mod Serving
 mod Sizes
 mod Steps
+mod Calls

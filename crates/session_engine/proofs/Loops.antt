@@ -18,6 +18,7 @@ use Rattle.session_engine.specs.declared.sessions.Next.TheVariants as next
 use Rattle.session_engine.specs.Plans.{TaskPlans}
 use Rattle.session_engine.specs.States.{SessionState}
 use Rattle.session_engine.specs.Seen.{Answers, RanOut, Asks, EndOn, StepSees, NextSees, EndCause, EndOver, NextServes}
+use Rattle.http_messages.specs.declared.limits.TheConstants.{MESSAGE_LIMIT}
 use Rattle.session_engine.proofs.Ends.{answers_none, answers_then, answers_more, settles_then, served_over}
 
 -- from old to now, messages were answered with fixed replies
@@ -28,9 +29,9 @@ pub record Going (plans : TaskPlans) (old now : SessionState) (source source_now
   pub sent : List ℕ
   pub written_more : Appends sink.written sink_now.written sent
   pub before : Answers plans old.answered (old.buffer ++ bytes) now.answered now.buffer [] sent
-  pub few : now.answered < 1000000
+  pub few : now.answered < MESSAGE_LIMIT
 
-pub going_none : (plans : TaskPlans) (old : SessionState) (t : SourceTold) (w : SinkTold) → old.answered < 1000000 → Going plans old old t t w w
+pub going_none : (plans : TaskPlans) (old : SessionState) (t : SourceTold) (w : SinkTold) → old.answered < MESSAGE_LIMIT → Going plans old old t t w w
 going_none plans old t w few = record {
   bytes = [];
   taken_more = appends_none t.taken;

@@ -31,13 +31,10 @@ use Rattle.task_forms.specs.declared.tasks.Plan.{Plan}
 use Rattle.session_engine.specs.Plans.{TaskPlans, plans_of}
 use Rattle.session_engine.specs.States.{SessionState}
 use Rattle.session_engine.specs.Finishing.{Finishes, Stops}
-use Rattle.session_engine.specs.Seen.{Answers, RanOut, Settles, NextSees, Replies, Serves, IfWorn}
+use Rattle.session_engine.specs.Seen.{Answers, RanOut, Settles, NextSees, Replies, Serves, IfWorn, Standing}
 use Rattle.session_engine.proofs.Ends.{answers_none, answers_one, answers_then, answers_more, settles_at, settles_last, settles_then, no_exchange, served_told}
+use Rattle.http_messages.specs.declared.limits.TheConstants.{MESSAGE_LIMIT}
 use Rattle.session_engine.proofs.Steps.{early_of, prefix_behind, exchange_of}
-
--- what a desk stands for after a number and a world
-abbrev pub Standing : Type 1
-Standing = ℕ → World → List Entry → List Entry → Type 0
 
 -- the desk stands for lists that begin with the old ones, by entries that answered the messages of these bytes
 pub record Stood (plans : TaskPlans) (stands : List Entry → List Entry → Type 0) (seen mine : List Entry) (bytes : List ℕ) (answered : ℕ) (rest sent : List ℕ) : Type 0 where
@@ -58,7 +55,7 @@ pub record Serving (plans : TaskPlans) (old new : Standing) (now : SessionState)
   pub sent : List ℕ
   pub written_more : Appends sink.written sink_now.written sent
   pub each : StoodAll plans old new bytes now.answered now.buffer sent
-  pub few : now.answered < 1000000
+  pub few : now.answered < MESSAGE_LIMIT
 
 -- at a task
 pub record Asking (plans : TaskPlans) (old new : Standing) (now : SessionState) (source source_now : SourceTold) (sink sink_now : SinkTold) (task : Task) : Type 0 where
@@ -73,7 +70,7 @@ pub record Asking (plans : TaskPlans) (old new : Standing) (now : SessionState) 
   pub reads : ReadsMessage middle message now.buffer
   pub planned : plans.plan message ≡ planned_task task
   pub pending : now.pending ≡ Some (record { head_only = is_head message; close = closes message (now.answered + 1) })
-  pub few : now.answered < 1000000
+  pub few : now.answered < MESSAGE_LIMIT
 
 -- ---- the start
 
@@ -91,7 +88,7 @@ serving_none plans old now t w e = record {
     now = subst (λ (s : List Entry). old first world s (mine ++ [])) (sym (append-nil seen)) (subst (old first world seen) (sym (append-nil mine)) h);
     answers = subst (λ (s : SessionState). Answers plans 0 [] s.answered s.buffer [] []) (sym e) (answers_none plans 0 []);
   };
-  few = subst (λ (s : SessionState). s.answered < 1000000) (sym e) (omega arith);
+  few = subst (λ (s : SessionState). s.answered < MESSAGE_LIMIT) (sym e) (omega arith);
 }
 
 -- ---- a call of next
@@ -493,12 +490,12 @@ counted_as plans old later t u w x k n end e h first world seen mine stood =
 
 -- ---- the measure
 
-runs_up : (plans : TaskPlans) (i : ℕ) (a : List ℕ) (xs : List (Exchange Entry)) (j : ℕ) (b : List ℕ) → Runs plans i a xs j b → i ≤ j
+pub runs_up : (plans : TaskPlans) (i : ℕ) (a : List ℕ) (xs : List (Exchange Entry)) (j : ℕ) (b : List ℕ) → Runs plans i a xs j b → i ≤ j
 runs_up plans i a [] j b h = omega (arith, h.0)
 runs_up plans i a (x ∷ xs) j b h = omega (arith, h.2, runs_up plans x.number h.0 xs j b h.4)
 
 pub falls : (plans : TaskPlans) (mid now after : SessionState) (u v : SourceTold) (x y : SinkTold) (task : Task) (q : Pending) (r : Reply) (z : SinkTold)
-    → NextSees plans mid now u v x y (next.Task task) → Replies q r now after y z None → mid.answered < 1000000 → 1000000 - after.answered < 1000000 - mid.answered
+    → NextSees plans mid now u v x y (next.Task task) → Replies q r now after y z None → mid.answered < MESSAGE_LIMIT → MESSAGE_LIMIT - after.answered < MESSAGE_LIMIT - mid.answered
 falls plans mid now after u v x y task q r z h done few =
     omega (
       arith,

@@ -32,6 +32,7 @@ use Rattle.session_engine.specs.States.{SessionState}
 use Rattle.session_engine.specs.Finishing.{Refuses}
 use Rattle.session_engine.specs.Seen.{TakesMessage, Answers, RanOut, EndOn, IsStable, Settles, StepSees, Replies}
 use Rattle.session_engine.proofs.Heads.{interim_same}
+use Rattle.http_messages.specs.declared.limits.TheConstants.{MESSAGE_LIMIT}
 use Rattle.session_engine.proofs.Ends.{answers_none, answers_one, settles_at, settles_last, no_exchange}
 
 -- ---- the interim text of a message, and proper prefixes
@@ -173,7 +174,7 @@ sent_same m n r sent p e f g = λ i. e i ++ reply_text r (f i) (g i)
 
 pub step_answered : (plans : TaskPlans) (old mid now : SessionState) (t u : SourceTold) (w x y : SinkTold) (message : Message) (r : Reply) (p : Pending)
     → TakesMessage old.buffer mid.buffer t u w x (found.Whole message) → plans.plan message ≡ planned_reply r → p.head_only ≡ is_head message → p.close ≡ closes message (mid.answered + 1)
-    → mid.answered ≡ old.answered → old.answered < 1000000 → Replies p r mid now x y None → StepSees plans old now t u w y step.Answered
+    → mid.answered ≡ old.answered → old.answered < MESSAGE_LIMIT → Replies p r mid now x y None → StepSees plans old now t u w y step.Answered
 step_answered plans old mid now t u w x y message r p h planned head_only close e few done = record {
   bytes = h.bytes;
   taken_more = h.taken_more;

@@ -21,9 +21,12 @@ use Rattle.http_model.specs.Requests.{ReadsMessage}
 use Rattle.http_model.specs.Rests.{IsBetween, IsRefused, IsCut, IsEarly}
 use Rattle.http_model.specs.Exchanges.{planned_task, Exchange, Runs, StaysOpen, LastCloses, text_of, entries_of}
 use Rattle.http_model.specs.Served.{Served, RunsOut, IsProperPrefix}
+use Rattle.world_cells.specs.World.{World}
 use Rattle.task_forms.specs.declared.tasks.Task.{Task}
 use Rattle.task_forms.specs.declared.tasks.Entry.{Entry}
 use Rattle.task_forms.specs.Desks.{last_number}
+use Rattle.session_engine.specs.declared.drives.Driven.{Driven}
+use Rattle.session_engine.specs.declared.drives.Ending.{Ending}
 use Rattle.session_engine.specs.declared.messages.Taken.{Taken}
 use Rattle.session_engine.specs.declared.messages.Taken.TheVariants as found
 use Rattle.session_engine.specs.declared.sessions.Pending.{Pending}
@@ -254,3 +257,24 @@ pub record Serves (plans : TaskPlans) (stands : List Entry → List Entry → Ty
   pub out : List ℕ
   pub written_more : Appends sink.written sink_now.written out
   pub served : IfSome source.left (λ all. Served plans 0 all bytes worn answered entries out end)
+
+-- what a desk stands for after a number and a world
+abbrev pub Standing : Type 1
+Standing = ℕ → World → List Entry → List Entry → Type 0
+
+-- for any lists for which the desk stood: it stands for lists that begin with them, by as many entries of its own as are told,
+-- and what was written is what the messages of the input are to be sent
+abbrev pub ServesAll : TaskPlans → Standing → Standing → SourceTold → SourceTold → SinkTold → SinkTold → Driven → Type 0
+ServesAll plans old new source source_now sink sink_now d =
+    (first : ℕ) (w : World) (seen mine : List Entry) → old first w seen mine
+    → Serves plans (Counted (new first w) (length mine + d.entries)) first seen mine source source_now sink sink_now d.answered d.end
+
+-- the same of the end alone
+abbrev pub ServesEnd : TaskPlans → Standing → Standing → SourceTold → SourceTold → SinkTold → SinkTold → SessionEnd → Type 0
+ServesEnd plans old new source source_now sink sink_now end =
+    (first : ℕ) (w : World) (seen mine : List Entry) → old first w seen mine
+    → (answered : ℕ) × Serves plans (new first w) first seen mine source source_now sink sink_now answered end
+
+-- what is told where the loop over a session has left it so
+abbrev pub driven_by : SessionState → Ending → Driven
+driven_by s e = record { end = e.end; answered = s.answered; entries = e.entries }

@@ -1,10 +1,9 @@
-ghost use Rattle.std.specs.Prelude.{◌≡◌, ◌≤◌, ◌+◌, ℕ, List, [], length, None};
-ghost use Rattle.world_cells.specs.World.{World};
-ghost use Rattle.task_forms.specs.declared.tasks.Entry.{Entry as StoreEntry};
+ghost use Rattle.std.specs.Prelude.{◌≡◌, ◌≤◌, [], None};
 ghost use Rattle.task_forms.specs.declared.tasks.Task.{Task as StoreTask};
 ghost use Rattle.session_engine.specs.Plans.{plans_of};
-ghost use Rattle.session_engine.specs.Seen.{Serves, Counted, EndCause};
+ghost use Rattle.session_engine.specs.Seen.{ServesAll, ServesEnd, driven_by, EndCause};
 ghost use Rattle.session_engine.specs.Finishing.{Finishes, FinishCause, Stops, StopCause};
+ghost use Rattle.http_messages.specs.declared.limits.TheConstants.{MESSAGE_LIMIT};
 
 use crate::{Limits, Next, Session};
 use http_messages::{SessionEnd, Stop, send_stop, send_unavailable};
@@ -25,7 +24,7 @@ pub struct Driven {
 }
 
 /// How a session ended, and how many tasks the desk did.
-struct Ending {
+pub struct Ending {
     end: SessionEnd,
     entries: u64,
 }
@@ -72,10 +71,8 @@ fn serve<S: Source, K: Sink, P: Planner, D: Desk>(
     requires fresh { session.old ≡ record { answered = 0; buffer = []; pending = None } }
     requires fit { (t : StoreTask) → P.fit planner.now t → (D.meaning (D.fixed desk.old)).fit t }
     ensures fixed { D.fixed desk.new ≡ D.fixed desk.old }
-    ensures few { result.entries ≤ 1000000 }
-    ensures serves { (first : ℕ) (w : World) (seen mine : List StoreEntry) → D.stands desk.old first w seen mine →
-        Serves (plans_of (P.planned planner.now)) (Counted (D.stands desk.new first w) (length mine + result.entries)) first seen mine
-        (S.told source.old) (S.told source.new) (K.told sink.old) (K.told sink.new) session.new.answered result.end }
+    ensures few { result.entries ≤ MESSAGE_LIMIT }
+    ensures serves { ServesAll (plans_of (P.planned planner.now)) (D.stands desk.old) (D.stands desk.new) (S.told source.old) (S.told source.new) (K.told sink.old) (K.told sink.new) (driven_by session.new result) }
     ensures cause { EndCause (S.told source.old) (S.told source.new) (K.told sink.old) (K.told sink.new) result.end }
 {
     read_stays();
@@ -120,12 +117,10 @@ pub fn drive_counted<S: Source, K: Sink, P: Planner, D: Desk>(
 ) -> Driven
     requires fit { (t : StoreTask) → P.fit planner.now t → (D.meaning (D.fixed desk.old)).fit t }
     ensures fixed { D.fixed desk.new ≡ D.fixed desk.old }
-    ensures few { (result.answered ≤ 1000000) × (result.entries ≤ 1000000) }
+    ensures few { (result.answered ≤ MESSAGE_LIMIT) × (result.entries ≤ MESSAGE_LIMIT) }
     // For any lists for which the desk stood: it stands for lists that begin with them, and what was written is what the
     // messages of the input are to be sent, by the entries that joined, which are as many as is said.
-    ensures serves { (first : ℕ) (w : World) (seen mine : List StoreEntry) → D.stands desk.old first w seen mine →
-        Serves (plans_of (P.planned planner.now)) (Counted (D.stands desk.new first w) (length mine + result.entries)) first seen mine
-        (S.told source.old) (S.told source.new) (K.told sink.old) (K.told sink.new) result.answered result.end }
+    ensures serves { ServesAll (plans_of (P.planned planner.now)) (D.stands desk.old) (D.stands desk.new) (S.told source.old) (S.told source.new) (K.told sink.old) (K.told sink.new) result }
     ensures cause { EndCause (S.told source.old) (S.told source.new) (K.told sink.old) (K.told sink.new) result.end }
 {
     read_stays();
@@ -156,9 +151,7 @@ pub fn drive<S: Source, K: Sink, P: Planner, D: Desk>(
 ) -> SessionEnd
     requires fit { (t : StoreTask) → P.fit planner.now t → (D.meaning (D.fixed desk.old)).fit t }
     ensures fixed { D.fixed desk.new ≡ D.fixed desk.old }
-    ensures serves { (first : ℕ) (w : World) (seen mine : List StoreEntry) → D.stands desk.old first w seen mine →
-        (answered : ℕ) × Serves (plans_of (P.planned planner.now)) (D.stands desk.new first w) first seen mine
-        (S.told source.old) (S.told source.new) (K.told sink.old) (K.told sink.new) answered result }
+    ensures serves { ServesEnd (plans_of (P.planned planner.now)) (D.stands desk.old) (D.stands desk.new) (S.told source.old) (S.told source.new) (K.told sink.old) (K.told sink.new) result }
     ensures cause { EndCause (S.told source.old) (S.told source.new) (K.told sink.old) (K.told sink.new) result }
 {
     drive_counted(alloc, limits, planner, source, sink, desk).end

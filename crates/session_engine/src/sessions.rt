@@ -3,6 +3,7 @@ ghost use Rattle.http_model.specs.Refusals.{refusal_of, code_of};
 ghost use Rattle.session_engine.specs.Plans.{plans_of};
 ghost use Rattle.session_engine.specs.Seen.{StepSees, StepCause, NextSees, NextServes, NextCause, Replies, ReplyCause, FitStep, FitNext};
 ghost use Rattle.session_engine.specs.Finishing.{Refuses, RefuseCause};
+ghost use Rattle.http_messages.specs.declared.limits.TheConstants.{MESSAGE_LIMIT};
 
 use crate::Limits;
 use crate::messages::{Taken, take_message};
@@ -56,13 +57,14 @@ pub struct Session {
 
 impl Model for Session {
     ghost use Rattle.std.specs.Prelude.{◌≤◌};
+    ghost use Rattle.http_messages.specs.declared.limits.TheConstants.{MESSAGE_LIMIT};
     ghost use Rattle.session_engine.specs.States.{SessionState};
 
     ghost Value = { SessionState };
 
     ghost view = { λ s. record { answered = s.answered; buffer = s.buffer; pending = s.pending } };
 
-    ghost invariant = { λ s. s.answered ≤ 1000000 };
+    ghost invariant = { λ s. s.answered ≤ MESSAGE_LIMIT };
 }
 
 /// The code that is told for a reason to refuse a rest.
@@ -128,7 +130,7 @@ impl Session {
     /// How many messages were answered.
     pub fn answered(&self) -> u64
         ensures is { result ≡ self.now.answered }
-        ensures few { result ≤ 1000000 }
+        ensures few { result ≤ MESSAGE_LIMIT }
     {
         self.answered
     }
@@ -140,7 +142,7 @@ impl Session {
         reply: &Reply,
         sink: &mut K,
     ) -> Option<SessionEnd>
-        requires { self.old.answered < 1000000 }
+        requires { self.old.answered < MESSAGE_LIMIT }
         ensures sends { Replies pending reply.now self.old self.new (K.told sink.old) (K.told sink.new) result }
         ensures cause { ReplyCause (K.told sink.old) (K.told sink.new) result }
     {
@@ -162,7 +164,7 @@ impl Session {
     /// connection. Takes no memory.
     pub fn send<K: Sink>(&mut self, reply: &Reply, sink: &mut K) -> Option<SessionEnd>
         requires pending { IsSome self.old.pending }
-        requires few { self.old.answered < 1000000 }
+        requires few { self.old.answered < MESSAGE_LIMIT }
         ensures sends { IfSome self.old.pending (λ p. Replies p reply.now self.old self.new (K.told sink.old) (K.told sink.new) result) }
         ensures cause { ReplyCause (K.told sink.old) (K.told sink.new) result }
     {
@@ -180,7 +182,7 @@ impl Session {
         source: &mut S,
         sink: &mut K,
     ) -> Step
-        requires { self.old.answered < 1000000 }
+        requires { self.old.answered < MESSAGE_LIMIT }
         ensures sees { StepSees (plans_of (P.planned planner.now)) self.old self.new (S.told source.old) (S.told source.new) (K.told sink.old) (K.told sink.new) result }
         ensures fit { FitStep (P.fit planner.now) result }
         ensures cause { StepCause (S.told source.old) (S.told source.new) (K.told sink.old) (K.told sink.new) result }
@@ -211,8 +213,8 @@ impl Session {
         }
     }
 
-    /// Answers the messages whose replies are fixed, up to one that is a task or to the end. After `Task` comes `send`
-    /// before the next `next`; after an end no call is made. With `Ended(NoMemory)` the text that says so is still to be
+    /// Answers the messages whose replies are fixed, up to one that is a task or to the end. The task that was given last has
+    /// been answered by `send`; after an end no call is made. With `Ended(NoMemory)` the text that says so is still to be
     /// sent by the caller.
     pub fn next<S: Source, K: Sink, P: Planner>(
         &mut self,
@@ -221,7 +223,8 @@ impl Session {
         source: &mut S,
         sink: &mut K,
     ) -> Next
-        requires { self.old.answered < 1000000 }
+        requires few { self.old.answered < MESSAGE_LIMIT }
+        requires answered { self.old.pending ≡ None }
         // by the bytes that were seen, of any source,
         ensures sees { NextSees (plans_of (P.planned planner.now)) self.old self.new (S.told source.old) (S.told source.new) (K.told sink.old) (K.told sink.new) result }
         // and by all that stood there, where the source tells it

@@ -121,9 +121,13 @@ impl Desk for Few {
       reach = λ _ _ _. true;
     } };
 
+    ghost is_own = { λ _ _. true };
+
     ghost stands = { λ _ _ _ _ _. ⊥ };
 
     ghost legal = { λ _ _ _ _ _ h. absurd h };
+
+    ghost own = { λ _ _ _ _ _ h. absurd h };
 
     fn answer(&mut self, _task: Task) -> Result<Reply, DeskEnd> {
         if self.answers == 0 {

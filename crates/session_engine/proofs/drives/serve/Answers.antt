@@ -2,13 +2,15 @@ use Rattle.std.proofs.Common.{refl, ◌∙◌, None, length, ◌+◌, ◌-◌, �
 use Rattle.session_engine.specs.States.{SessionState}
 use Rattle.session_engine.proofs.Serving.{serve_end, serve_out, serve_worn, asking_of, serve_sent, serving_sent, replies_of, falls, refused_as, own_entries}
 use Rattle.session_engine.proofs.Counting.{CountedFrom, none_counted, joins_counted, refuses_counted}
+use Rattle.http_messages.specs.declared.limits.TheConstants.{MESSAGE_LIMIT}
 use Rattle.session_engine.proofs.drives.serve.Goals as goal
 
 pub serving-init : goal.serving-init
 serving-init g c = record {
   fixed = refl;
   so_far = λ base. none_counted _ _ base _ _ _ _ refl c.requires.fresh;
-  answered = subst (λ (s : SessionState). s.answered < 1000000) (sym c.requires.fresh) (omega arith);
+  idle = ap (λ (s : SessionState). s.pending) c.requires.fresh;
+  answered = subst (λ (s : SessionState). s.answered < MESSAGE_LIMIT) (sym c.requires.fresh) (omega arith);
   made = omega arith;
   reads = refl;
   writes = refl;
@@ -41,7 +43,8 @@ serving-smaller g c =
 
 pub serving-preserved : goal.serving-preserved
 serving-preserved g c =
-    let falling = falls _ _ _ _ _ _ _ _ c.in-Task.task _ _ (g.K.Sink.told c.send.new.sink) c.in-Task.ensures.sees (replies_of c.next.new.self.pending _ c.in-Ok.reply c.next.new.self c.send.new.self (g.K.Sink.told c.next.new.sink) (g.K.Sink.told c.send.new.sink) None c.in-Task.ensures.sees.verdict.pending c.in-None.ensures.sends) c.serving.invariant.answered in
+    let done = replies_of c.next.new.self.pending _ c.in-Ok.reply c.next.new.self c.send.new.self (g.K.Sink.told c.next.new.sink) (g.K.Sink.told c.send.new.sink) None c.in-Task.ensures.sees.verdict.pending c.in-None.ensures.sends in
+    let falling = falls _ _ _ _ _ _ _ _ c.in-Task.task _ _ (g.K.Sink.told c.send.new.sink) c.in-Task.ensures.sees done c.serving.invariant.answered in
     let few = c.serving.invariant.answered in
     let made = c.serving.invariant.made in
     let so_far = λ (base : ℕ).
@@ -51,6 +54,7 @@ serving-preserved g c =
     record {
       fixed = c.answer.ensures.fixed ∙ c.serving.invariant.fixed;
       so_far = so_far;
+      idle = ap (λ (s : SessionState). s.pending) done.2;
       answered = (so_far 0).few;
       made = omega (arith, falling, few, made);
       reads = c.in-Task.ensures.cause.0 ∙ c.serving.invariant.reads;

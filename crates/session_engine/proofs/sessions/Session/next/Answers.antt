@@ -3,7 +3,7 @@ use Rattle.session_engine.proofs.Loops.{going_none, going_more, going_task, goin
 use Rattle.session_engine.proofs.sessions.Session.next.Goals as goal
 
 pub answering-init : goal.answering-init
-answering-init g c = record { going = going_none _ _ _ _ c.requires; reads = refl; writes = refl }
+answering-init g c = record { going = going_none _ _ _ _ c.requires.few; reads = refl; writes = refl }
 
 pub answering-preserved : goal.answering-preserved
 answering-preserved g c = record {

@@ -1,6 +1,7 @@
 use Rattle.std.proofs.Common.{◌≡◌, ◌-◌}
 use Rattle.session_engine.specs.Plans.{plans_of}
 use Rattle.session_engine.proofs.Loops.{Going}
+use Rattle.http_messages.specs.declared.limits.TheConstants.{MESSAGE_LIMIT}
 use Rattle.session_engine.proofs.sessions.Session.next.Given as goal
 
 abbrev pub invariant-answering : goal.invariant-answering
@@ -11,4 +12,4 @@ invariant-answering g l = record {
 }
 
 abbrev pub decreases-answering : goal.decreases-answering
-decreases-answering g l = 1000000 - l.self.answered
+decreases-answering g l = MESSAGE_LIMIT - l.self.answered
