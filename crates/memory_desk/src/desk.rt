@@ -81,6 +81,7 @@ impl MemoryDesk {
 }
 
 impl Desk for MemoryDesk {
+    ghost use Rattle.task_forms.specs.DesksAlone.{owns_all, own_alone};
     ghost use Rattle.memory_desk.specs.Alone.{StandsAlone};
     ghost use Rattle.memory_desk.specs.Answered.{desk_meaning};
     ghost use Rattle.world_cells.specs.Reads.{overlay};
@@ -91,6 +92,8 @@ impl Desk for MemoryDesk {
     ghost fixed = { λ d. d.schema };
 
     ghost meaning = { λ schema. desk_meaning schema };
+
+    ghost is_own = { λ _. owns_all };
 
     ghost stands = { λ d _ w seen mine. StandsAlone (desk_meaning d.schema) (overlay nothing d.cells) w seen mine };
 
@@ -103,4 +106,6 @@ impl Desk for MemoryDesk {
     }
 
     ghost legal = { λ d first w seen mine stands. stands.legal };
+
+    ghost own = { λ d first w seen mine stands. own_alone seen mine stands.own };
 }
