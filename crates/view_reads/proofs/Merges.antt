@@ -12,17 +12,13 @@ use Rattle.world_cells.specs.declared.spans.Span.{Span}
 use Rattle.world_cells.specs.declared.sets.Written.{Written}
 use Rattle.world_cells.specs.CellOrder.{cell_key_cmp, cell_key_cmp_total, same_cell_key}
 use Rattle.world_cells.specs.Reads.{Cells, entries_of, overlay, in_span, IsFirstIn, IsLastIn}
-use Rattle.view_reads.specs.Counts.{counted}
+use Rattle.view_reads.specs.Counts.{counted, counted_once}
 use Rattle.view_reads.specs.Narrowing.{IsMet, is_met, narrowed, CanNarrow}
-use Rattle.view_reads.specs.Merging.{nothing, hidden, unwritten, is_met_before, IsKept}
-use Rattle.view_reads.proofs.Sorted.{is_less}
+use Rattle.view_reads.specs.Merging.{nothing, hidden, unwritten, is_met_before, IsFirstUnwritten}
 use Rattle.view_reads.proofs.Puts.{same_is}
-use Rattle.view_reads.proofs.Narrows.{and_true, narrowed_is, narrowed_can}
+use Rattle.view_reads.specs.SpanLaws.{and_true, less_trans, narrowed_is, narrowed_can}
 
 -- ---- what a search meets before what
-
-pub less_trans : (i j k : CellKey) → is_lt (cell_key_cmp i j) ≡ true → is_lt (cell_key_cmp j k) ≡ true → is_lt (cell_key_cmp i k) ≡ true
-less_trans i j k p q = ap is_lt (cell_key_cmp_total.trans i j k (is_less _ p) (is_less _ q))
 
 pub met_trans : (from_top : Bool) (i j k : CellKey) → is_met from_top i j ≡ true → is_met from_top j k ≡ true → is_met from_top i k ≡ true
 met_trans false i j k p q = less_trans i j k p q
@@ -103,7 +99,7 @@ neither_shows f ws k e p = neither (find cell_key_cmp k (entries_of ws)) (f k) e
 -- ---- the first of what is kept and what is put
 
 pub kept_first : (from_top : Bool) (f : Cells) (ws : List Written) (span : Span) (put : Option (CellKey × Cell)) (p : CellKey × Cell)
-    → IsMet from_top (overlay nothing ws) span put → IsKept from_top f ws span put (Some p) → IsMet from_top (overlay f ws) span (Some p)
+    → IsMet from_top (overlay nothing ws) span put → IsFirstUnwritten from_top f ws span put (Some p) → IsMet from_top (overlay f ws) span (Some p)
 kept_first from_top f ws span put p met kept = (
   kept.0,
   kept_shows (find cell_key_cmp p.0 (entries_of ws)) (f p.0) p.1 kept.1,
@@ -115,7 +111,7 @@ kept_first from_top f ws span put p met kept = (
     not_put (Some q) met early j inside before = met.2 j inside (met_trans from_top j p.0 q.0 before early)
 
 pub put_first : (from_top : Bool) (f : Cells) (ws : List Written) (span : Span) (put : Option (CellKey × Cell))
-    → IsMet from_top (overlay nothing ws) span put → IsKept from_top f ws span put None → IsMet from_top (overlay f ws) span put
+    → IsMet from_top (overlay nothing ws) span put → IsFirstUnwritten from_top f ws span put None → IsMet from_top (overlay f ws) span put
 put_first from_top f ws span None met kept = λ j inside. neither_shows f ws j (kept j inside refl) (met j inside)
 put_first from_top f ws span (Some q) met kept = (
   met.0,
@@ -139,16 +135,16 @@ pub by_left : {P : Type 0} (b : Bool) → (b ≡ true → P) → (b ≡ false �
 by_left true f g = f refl
 by_left false f g = g refl
 
-pub left_none : (from_top : Bool) (f : Cells) (ws : List Written) (span rest : Span) (put : Option (CellKey × Cell)) → IsLeft from_top f ws span rest → IsMet from_top f rest None → IsKept from_top f ws span put None
+pub left_none : (from_top : Bool) (f : Cells) (ws : List Written) (span rest : Span) (put : Option (CellKey × Cell)) → IsLeft from_top f ws span rest → IsMet from_top f rest None → IsFirstUnwritten from_top f ws span put None
 left_none from_top f ws span rest put left met = λ j inside before. by_left (in_span rest j) (λ here. unwritten_none f ws j (met j here)) (λ gone. left.passed j inside gone)
 
 pub left_late : (from_top : Bool) (f : Cells) (ws : List Written) (span rest : Span) (put : Option (CellKey × Cell)) (p : CellKey × Cell) → IsLeft from_top f ws span rest → IsMet from_top f rest (Some p)
-    → is_met_before from_top put p.0 ≡ false → IsKept from_top f ws span put None
+    → is_met_before from_top put p.0 ≡ false → IsFirstUnwritten from_top f ws span put None
 left_late from_top f ws span rest put p left met late = λ j inside before.
     by_left (in_span rest j) (λ here. unwritten_none f ws j (met.2 j here (before_far from_top put j p.0 late before))) (λ gone. left.passed j inside gone)
 
 pub left_found : (from_top : Bool) (f : Cells) (ws : List Written) (span rest : Span) (put : Option (CellKey × Cell)) (p : CellKey × Cell) → IsLeft from_top f ws span rest → IsMet from_top f rest (Some p)
-    → is_met_before from_top put p.0 ≡ true → find cell_key_cmp p.0 (entries_of ws) ≡ None → IsKept from_top f ws span put (Some p)
+    → is_met_before from_top put p.0 ≡ true → find cell_key_cmp p.0 (entries_of ws) ≡ None → IsFirstUnwritten from_top f ws span put (Some p)
 left_found from_top f ws span rest put p left met early free = (
   left.within p.0 met.0,
   ap (λ w. hidden w (f p.0)) free ∙ met.1,
@@ -218,9 +214,6 @@ fewer_left from_top rest ws k c can inside written =
 pub at_most_all : (span : Span) (ws : List Written) → keys_in span ws ≤ length ws
 at_most_all span [] = omega arith
 at_most_all span (w ∷ ws) = omega (arith, one_at_most (in_span span w.key) true (λ e. refl), at_most_all span ws)
-
-pub counted_once : (n : ℕ) → counted n ≤ n + 1
-counted_once n = omega arith
 
 -- one step of work passes one write
 pub work_step : (before made start all left less : ℕ) → made ≡ counted before → before + left ≤ start + all → less < left → made + less ≤ start + all

@@ -18,7 +18,8 @@ use Rattle.world_cells.specs.Reads.{Cells, entries_of, overlay, in_span}
 use Rattle.view_reads.specs.Narrowing.{IsMet}
 use Rattle.view_reads.specs.Merging.{nothing, put_in}
 use Rattle.view_reads.specs.Places.{AreSorted}
-use Rattle.view_reads.proofs.Sorted.{both_T, true_T, is_less}
+use Rattle.view_reads.specs.SpanLaws.{is_less}
+use Rattle.view_reads.proofs.Sorted.{both_T, true_T}
 
 -- ---- keys
 

@@ -2,7 +2,7 @@
 use Rattle.std.proofs.Common.{◌≡◌, ℕ, zero, suc, ◌+◌, ◌-◌, ◌*◌, ◌^◌, ◌<◌, ◌≤◌, List, [], ◌∷◌, length, get_or, refl, sym, ap, subst, ◌∙◌, Bool, true, false, Option, Some, None, arith}
 use Rattle.std.specs.Prelude.{⊤, ◌&&◌, leb}
 use Rattle.std.proofs.lemmas.Bool.{leb-true}
-use Rattle.view_reads.proofs.Narrows.{and_true}
+use Rattle.view_reads.specs.SpanLaws.{and_true}
 use Rattle.std.specs.declared.cmp.Ordering.{Ordering}
 use Rattle.std.specs.declared.cmp.Ordering.TheVariants.{Less, Equal, Greater}
 use Rattle.std.specs.Ordering.{nat_cmp, ordering_then}
@@ -19,7 +19,7 @@ use Rattle.world_cells.specs.declared.spans.Span.TheVariants as span
 use Rattle.world_cells.specs.Reads.{link_cmp, in_span}
 use Rattle.view_reads.specs.Narrowing.{is_behind, narrowed}
 use Rattle.view_reads.specs.Bounds.{IsBoundedLink, IsBoundedKey, IsBoundedBacks}
-use Rattle.view_reads.proofs.Sorted.{is_less}
+use Rattle.view_reads.specs.SpanLaws.{is_less}
 
 -- ---- texts, the shorter ones first
 

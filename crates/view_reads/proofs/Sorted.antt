@@ -1,9 +1,6 @@
 -- Writes in strictly ascending order of keys.
 use Rattle.std.proofs.Common.{◌≡◌, List, [], ◌∷◌, map, refl, sym, subst, Bool, true, false, Option, T, Result, Ok, Err}
 use Rattle.std.specs.Prelude.{◌&&◌, OnOk, OnErr}
-use Rattle.std.specs.declared.cmp.Ordering.{Ordering}
-use Rattle.std.specs.declared.cmp.Ordering.TheVariants.{Less, Equal, Greater}
-use Rattle.std.specs.Ordering.{is_lt}
 use Rattle.std.specs.FinMap.Entries.{is_sorted, is_sorted-put}
 use Rattle.ident_rules.specs.declared.memory.NoMemory.{NoMemory}
 use Rattle.world_cells.specs.declared.keys.CellKey.{CellKey}
@@ -20,11 +17,6 @@ both_T false b h = absurd h
 pub true_T : (b : Bool) → T b → b ≡ true
 true_T true h = refl
 true_T false h = absurd h
-
-pub is_less : (o : Ordering) → is_lt o ≡ true → o ≡ Less
-is_less Less e = refl
-is_less Equal e = cc
-is_less Greater e = cc
 
 pub rising : (ws : List Written) → AreSorted ws → AreRisingKeys (map (λ w. w.key) ws)
 rising [] h = tt

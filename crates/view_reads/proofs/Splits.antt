@@ -15,10 +15,11 @@ use Rattle.view_reads.specs.Narrowing.{IsMet}
 use Rattle.view_reads.specs.Merging.{nothing, put_of, put_in}
 use Rattle.view_reads.specs.Places.{AreSorted}
 use Rattle.view_reads.specs.Sides.{is_passed, IsSplit}
-use Rattle.view_reads.proofs.Sorted.{both_T, is_less}
+use Rattle.view_reads.specs.SpanLaws.{is_less}
+use Rattle.view_reads.proofs.Sorted.{both_T}
 use Rattle.view_reads.proofs.Puts.{FirstOfRest, LastOfFront, first_past, first_none, last_past, last_none}
 use Rattle.view_reads.proofs.Places.{below_at}
-use Rattle.view_reads.proofs.Sides.{none_passed, before_out, behind_out, then_behind, then_before}
+use Rattle.view_reads.specs.SideLaws.{none_passed, before_out, behind_out, then_behind, then_before}
 
 sorted_at : (ws : List Written) (i j : ℕ) (d : Written) → AreSorted ws → i < j → j < length ws → is_lt (cell_key_cmp (get_or ws i d).key (get_or ws j d).key) ≡ true
 sorted_at [] i j d h less lt = absurd (omega arith)

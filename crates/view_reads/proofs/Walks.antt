@@ -12,9 +12,10 @@ use Rattle.world_cells.specs.declared.sets.Written.{Written}
 use Rattle.world_cells.specs.CellOrder.{cell_key_cmp, cell_key_cmp_total}
 use Rattle.world_cells.specs.Reads.{Cells, entries_of, in_span}
 use Rattle.view_reads.specs.Narrowing.{IsMet, is_met, narrowed}
-use Rattle.view_reads.specs.Merging.{hidden, unwritten, unless_written, is_met_before, IsKept}
-use Rattle.view_reads.proofs.Narrows.{and_true, narrowed_is}
-use Rattle.view_reads.proofs.Merges.{by_left, less_trans, unwritten_none, hidden_here, met_or_same, itself, before_far}
+use Rattle.view_reads.specs.Merging.{hidden, unwritten, unless_written, is_met_before, IsFirstUnwritten}
+use Rattle.view_reads.specs.SpanLaws.{and_true, narrowed_is}
+use Rattle.view_reads.specs.SpanLaws.{less_trans}
+use Rattle.view_reads.proofs.Merges.{by_left, unwritten_none, hidden_here, met_or_same, itself, before_far}
 
 not_both : (o : Ordering) → is_lt o ≡ true → is_lt (ordering_reverse o) ≡ true → ⊥
 not_both Less p q = cc q
@@ -119,11 +120,11 @@ top_none f ws span met = λ j inside. unwritten_none f ws j (met j inside)
 
 -- ---- the last that is kept, before what was put
 
-pub top_kept : (f : Cells) (ws : List Written) (span : Span) (put : Option (CellKey × Cell)) (p : CellKey × Cell) → IsMet true (unwritten f ws) span (Some p) → is_met_before true put p.0 ≡ true → IsKept true f ws span put (Some p)
+pub top_kept : (f : Cells) (ws : List Written) (span : Span) (put : Option (CellKey × Cell)) (p : CellKey × Cell) → IsMet true (unwritten f ws) span (Some p) → is_met_before true put p.0 ≡ true → IsFirstUnwritten true f ws span put (Some p)
 top_kept f ws span put p met early = (met.0, met.1, early, met.2)
 
-pub top_late : (f : Cells) (ws : List Written) (span : Span) (put : Option (CellKey × Cell)) (p : CellKey × Cell) → IsMet true (unwritten f ws) span (Some p) → is_met_before true put p.0 ≡ false → IsKept true f ws span put None
+pub top_late : (f : Cells) (ws : List Written) (span : Span) (put : Option (CellKey × Cell)) (p : CellKey × Cell) → IsMet true (unwritten f ws) span (Some p) → is_met_before true put p.0 ≡ false → IsFirstUnwritten true f ws span put None
 top_late f ws span put p met late = λ j inside before. met.2 j inside (before_far true put j p.0 late before)
 
-pub top_empty : (f : Cells) (ws : List Written) (span : Span) (put : Option (CellKey × Cell)) → IsMet true (unwritten f ws) span None → IsKept true f ws span put None
+pub top_empty : (f : Cells) (ws : List Written) (span : Span) (put : Option (CellKey × Cell)) → IsMet true (unwritten f ws) span None → IsFirstUnwritten true f ws span put None
 top_empty f ws span put met = λ j inside before. met j inside

@@ -1,8 +1,11 @@
 pub mod Bounds
 pub mod Counts
+pub mod Joining
 pub mod Merging
 pub mod Narrowing
 pub mod Places
 pub mod Recording
 pub mod RecordingLaws
+pub mod SideLaws
 pub mod Sides
+pub mod SpanLaws

@@ -37,9 +37,9 @@ is_met_before from_top None k = true
 is_met_before from_top (Some p) k = is_met from_top k p.0
 
 -- the unwritten cell of a span that a search meets first, if it meets one before what was put
-abbrev pub IsKept : Bool → Cells → List Written → Span → Option (CellKey × Cell) → Option (CellKey × Cell) → Type 0
-IsKept from_top f writes span put None = (j : CellKey) → IsTrue (in_span span j) → IsTrue (is_met_before from_top put j) → unwritten f writes j ≡ None
-IsKept from_top f writes span put (Some (k, c)) =
+abbrev pub IsFirstUnwritten : Bool → Cells → List Written → Span → Option (CellKey × Cell) → Option (CellKey × Cell) → Type 0
+IsFirstUnwritten from_top f writes span put None = (j : CellKey) → IsTrue (in_span span j) → IsTrue (is_met_before from_top put j) → unwritten f writes j ≡ None
+IsFirstUnwritten from_top f writes span put (Some (k, c)) =
     IsTrue (in_span span k) × (unwritten f writes k ≡ Some c) × IsTrue (is_met_before from_top put k)
     × ((j : CellKey) → IsTrue (in_span span j) → IsTrue (is_met from_top j k) → unwritten f writes j ≡ None)
 

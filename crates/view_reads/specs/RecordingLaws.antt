@@ -1,6 +1,6 @@
 -- What a recorder answers is so in each world that agrees with the view on what was read.
 use Rattle.std.proofs.Common.{◌≡◌, List, [], ◌∷◌, ◌++◌, Bool, true, false, refl, sym, ap, subst, ◌∙◌, Option, Some, None, Ok}
-use Rattle.std.specs.Prelude.{◌||◌, IsTrue}
+use Rattle.std.specs.Prelude.{◌||◌, IsTrue, IsFalse}
 use Rattle.std.specs.Option.{option_copied, option_map}
 use Rattle.std.specs.List.{list_any}
 use Rattle.std.specs.Borrow.{Bor}
@@ -15,7 +15,7 @@ use Rattle.world_cells.specs.declared.sets.ReadSet.{ReadSet}
 use Rattle.world_cells.specs.CellOrder.{cell_key_cmp_total, same_cell_key}
 use Rattle.world_cells.specs.Reads.{Cells, covers, in_part, AgreeOn, Leads, IsFirstIn, IsLastIn}
 use Rattle.world_cells.specs.CellLaws.{looks_alike, first_alike, last_alike}
-use Rattle.view_reads.specs.Recording.{Recording, read_key, read_part, Looked, LookedFirst, LookedLast, pair_now, Follows}
+use Rattle.view_reads.specs.Recording.{Recording, read_key, ReadsPart, LooksInto, Looked, LookedFirst, LookedLast, pair_now, found_key, Follows}
 
 -- ---- what reads cover
 
@@ -37,14 +37,35 @@ key_read reads key = or_left _ _ (at_end (same_cell_key key) reads.keys key (ap 
 pub still_read : (reads : ReadSet) (key k : CellKey) → IsTrue (covers reads k) → IsTrue (covers (read_key reads key) k)
 still_read reads key k e = or_both _ _ _ _ (λ known. more (same_cell_key k) reads.keys key known) (λ known. known) e
 
--- a part that was looked through is read
-pub part_read : (reads : ReadSet) (span : Span) (found : Option CellKey) (from_top : Bool) (k : CellKey)
-    → IsTrue (in_part (record { span = span; found = found; from_top = from_top }) k) → IsTrue (covers (read_part reads span found from_top) k)
-part_read reads span found from_top k e = or_right _ _ (at_end (λ part. in_part part k) reads.parts (record { span = span; found = found; from_top = from_top }) e)
+or_assoc : (a b c : Bool) → (a || (b || c)) ≡ ((a || b) || c)
+or_assoc true b c = refl
+or_assoc false b c = refl
 
-pub part_still_read : (reads : ReadSet) (span : Span) (found : Option CellKey) (from_top : Bool) (k : CellKey) → IsTrue (covers reads k) → IsTrue (covers (read_part reads span found from_top) k)
-part_still_read reads span found from_top k e =
-    or_both _ _ _ _ (λ known. known) (λ known. more (λ part. in_part part k) reads.parts (record { span = span; found = found; from_top = from_top }) known) e
+-- covered is what was covered and the part, nothing else
+pub part_covers : (before after : ReadSet) (span : Span) (found : Option CellKey) (from_top : Bool) → ReadsPart before span found from_top after → (k : CellKey)
+    → covers after k ≡ (covers before k || in_part (record { span = span; found = found; from_top = from_top }) k)
+part_covers before after span found from_top read k =
+    ap (λ (keys : List CellKey). list_any (same_cell_key k) keys || list_any (λ part. in_part part k) after.parts) read.keys
+    ∙ ap (λ b. list_any (same_cell_key k) before.keys || b) (read.parts.covers k)
+    ∙ or_assoc (list_any (same_cell_key k) before.keys) (list_any (λ part. in_part part k) before.parts) (in_part (record { span = span; found = found; from_top = from_top }) k)
+
+-- a part that was looked through is read
+pub part_read : (before after : ReadSet) (span : Span) (found : Option CellKey) (from_top : Bool) → ReadsPart before span found from_top after → (k : CellKey)
+    → IsTrue (in_part (record { span = span; found = found; from_top = from_top }) k) → IsTrue (covers after k)
+part_read before after span found from_top read k e = part_covers before after span found from_top read k ∙ or_right (covers before k) _ e
+
+-- and what was read stays so
+pub part_still_read : (before after : ReadSet) (span : Span) (found : Option CellKey) (from_top : Bool) → ReadsPart before span found from_top after → (k : CellKey) → IsTrue (covers before k) → IsTrue (covers after k)
+part_still_read before after span found from_top read k e = part_covers before after span found from_top read k ∙ or_left (covers before k) _ e
+
+only_right : (a b : Bool) → (a || b) ≡ true → a ≡ false → b ≡ true
+only_right true b e none = cc none
+only_right false b e none = e
+
+-- nothing else is
+pub only_part : (before after : ReadSet) (span : Span) (found : Option CellKey) (from_top : Bool) → ReadsPart before span found from_top after → (k : CellKey)
+    → IsTrue (covers after k) → IsFalse (covers before k) → IsTrue (in_part (record { span = span; found = found; from_top = from_top }) k)
+only_part before after span found from_top read k e none = only_right (covers before k) _ (sym (part_covers before after span found from_top read k) ∙ e) none
 
 -- ---- recordings that follow
 
@@ -59,13 +80,14 @@ module _ {V : Type 0} (cells : V → Cells) where
   looked_follows old key found new looked =
       subst (λ (r : Recording V). Follows old r) (sym looked.1) (record { store = refl; reads = λ k e. still_read old.reads key k e })
 
+  looks_follow : (old : Recording V) (span : Span) (found : Option CellKey) (from_top : Bool) (new : Recording V) → LooksInto old span found from_top new → Follows old new
+  looks_follow old span found from_top new looks = record { store = looks.store; reads = part_still_read old.reads new.reads span found from_top looks.reads }
+
   pub first_follows : (old : Recording V) (span : Span) (found : Option (Bor CellKey × Bor Cell)) (new : Recording V) → LookedFirst cells old span (Ok found) new → Follows old new
-  first_follows old span found new looked =
-      subst (λ (r : Recording V). Follows old r) (sym looked.1) (record { store = refl; reads = λ k e. part_still_read old.reads span (option_map (λ p. p.0.now) found) false k e })
+  first_follows old span found new looked = looks_follow old span (found_key found) false new looked.1
 
   pub last_follows : (old : Recording V) (span : Span) (found : Option (Bor CellKey × Bor Cell)) (new : Recording V) → LookedLast cells old span (Ok found) new → Follows old new
-  last_follows old span found new looked =
-      subst (λ (r : Recording V). Follows old r) (sym looked.1) (record { store = refl; reads = λ k e. part_still_read old.reads span (option_map (λ p. p.0.now) found) true k e })
+  last_follows old span found new looked = looks_follow old span (found_key found) true new looked.1
 
   -- ---- worlds that agree
 
@@ -75,22 +97,20 @@ module _ {V : Type 0} (cells : V → Cells) where
   looked_alike f h old key found new looked agree leads =
       looked.0 ∙ looks_alike f (cells old.store) h new.reads old.writes key (subst (λ (r : Recording V). IsTrue (covers r.reads key)) (sym looked.1) (key_read old.reads key)) agree leads
 
-  found_key : (found : Option (Bor CellKey × Bor Cell)) → option_map (λ (p : CellKey × Cell). p.0) (option_map pair_now found) ≡ option_map (λ (p : Bor CellKey × Bor Cell). p.0.now) found
-  found_key None = refl
-  found_key (Some p) = refl
+  key_found : (found : Option (Bor CellKey × Bor Cell)) → option_map (λ (p : CellKey × Cell). p.0) (option_map pair_now found) ≡ found_key found
+  key_found None = refl
+  key_found (Some p) = refl
 
   pub first_looked_alike : (f h : Cells) (old : Recording V) (span : Span) (found : Option (Bor CellKey × Bor Cell)) (new : Recording V) → LookedFirst cells old span (Ok found) new
       → AgreeOn new.reads f (cells old.store) → Leads f old.writes h → IsFirstIn h span (option_map pair_now found)
   first_looked_alike f h old span found new looked agree leads =
       first_alike f (cells old.store) h new.reads old.writes span (option_map pair_now found)
-      (λ j inside. subst (λ (r : Recording V). IsTrue (covers r.reads j)) (sym looked.1)
-      (part_read old.reads span (option_map (λ p. p.0.now) found) false j (ap (λ o. in_part (record { span = span; found = o; from_top = false }) j) (sym (found_key found)) ∙ inside)))
+      (λ j inside. part_read old.reads new.reads span (found_key found) false looked.1.reads j (ap (λ o. in_part (record { span = span; found = o; from_top = false }) j) (sym (key_found found)) ∙ inside))
       agree leads looked.0
 
   pub last_looked_alike : (f h : Cells) (old : Recording V) (span : Span) (found : Option (Bor CellKey × Bor Cell)) (new : Recording V) → LookedLast cells old span (Ok found) new
       → AgreeOn new.reads f (cells old.store) → Leads f old.writes h → IsLastIn h span (option_map pair_now found)
   last_looked_alike f h old span found new looked agree leads =
       last_alike f (cells old.store) h new.reads old.writes span (option_map pair_now found)
-      (λ j inside. subst (λ (r : Recording V). IsTrue (covers r.reads j)) (sym looked.1)
-      (part_read old.reads span (option_map (λ p. p.0.now) found) true j (ap (λ o. in_part (record { span = span; found = o; from_top = true }) j) (sym (found_key found)) ∙ inside)))
+      (λ j inside. part_read old.reads new.reads span (found_key found) true looked.1.reads j (ap (λ o. in_part (record { span = span; found = o; from_top = true }) j) (sym (key_found found)) ∙ inside))
       agree leads looked.0

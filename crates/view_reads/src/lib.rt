@@ -6,6 +6,7 @@
 #![tactic(auto)]
 
 mod cell_map;
+mod joining;
 mod merging;
 mod recorder;
 mod spans;
@@ -16,4 +17,5 @@ mod writes;
 
 pub use cell_map::CellMap;
 pub use recorder::Recorder;
+pub use spans::{in_span, is_passed};
 pub use views::View;

@@ -8,7 +8,7 @@ ghost use Rattle.view_reads.specs.Counts.{counted};
 ghost use Rattle.view_reads.specs.Recording.{pair_now};
 ghost use Rattle.view_reads.specs.Narrowing.{IsMet, CanNarrow};
 ghost use Rattle.view_reads.specs.Bounds.{IsBacks};
-ghost use Rattle.view_reads.specs.Merging.{IsKept, is_met_before, unwritten, unless_written};
+ghost use Rattle.view_reads.specs.Merging.{IsFirstUnwritten, is_met_before, unwritten, unless_written};
 
 use crate::View;
 use crate::spans::{bound_backs, bound_key, is_met, narrowed};
@@ -17,7 +17,7 @@ use outer_ends::Work;
 use world_cells::{Cell, CellKey, Span};
 
 /// The cell of a view that a search of a span meets first.
-fn met_in<'a, V: View>(
+fn first_of_view<'a, V: View>(
     from_top: bool,
     view: &'a V,
     span: &Span,
@@ -47,7 +47,7 @@ fn is_met_before(from_top: bool, put: &Option<(&CellKey, &Cell)>, key: &CellKey)
 }
 
 /// The cell of a view at whose key nothing is written, and which a search meets first, if it meets it before what was put.
-fn kept<'a, V: View>(
+fn first_unwritten<'a, V: View>(
     from_top: bool,
     view: &'a V,
     writes: &Writes,
@@ -56,12 +56,12 @@ fn kept<'a, V: View>(
     work: &mut Work,
 ) -> Option<(&'a CellKey, &'a Cell)>
     requires { CanNarrow from_top span }
-    ensures value { IsKept from_top (V.cells view.now) writes.now span (option_map pair_now put.now) (option_map pair_now result) }
+    ensures value { IsFirstUnwritten from_top (V.cells view.now) writes.now span (option_map pair_now put.now) (option_map pair_now result) }
     ensures work { work.new.done ≤ work.old.done + length writes.now + 1 }
     ensures rises { work.old.done ≤ work.new.done }
 {
     let mut rest = span;
-    while let Some((key, cell)) = met_in(from_top, view, &rest, work) {
+    while let Some((key, cell)) = first_of_view(from_top, view, &rest, work) {
         if !is_met_before(from_top, put, key) {
             return None;
         }
@@ -89,7 +89,7 @@ fn unless_written<'a>(
 }
 
 /// The last cell of a span of ways back at whose key nothing is written, by a walk over all of them.
-fn walked<'a, V: View>(
+fn last_unwritten_by_walk<'a, V: View>(
     view: &'a V,
     writes: &Writes,
     span: Span,
@@ -102,7 +102,7 @@ fn walked<'a, V: View>(
     bound_backs(&span);
     let mut rest = span;
     let mut last = None;
-    while let Some((key, cell)) = met_in(false, view, &rest, work) {
+    while let Some((key, cell)) = first_of_view(false, view, &rest, work) {
         bound_key(key);
         last = unless_written(writes, last, key, cell);
         rest = narrowed(false, rest, key);
@@ -113,7 +113,7 @@ fn walked<'a, V: View>(
 /// The last cell of a span of ways back at whose key nothing is written.
 ///
 /// Such a span has no edge above. So where the last cell is hidden, all of the span is walked through.
-fn last_kept<'a, V: View>(
+fn last_unwritten<'a, V: View>(
     view: &'a V,
     writes: &Writes,
     span: Span,
@@ -123,11 +123,11 @@ fn last_kept<'a, V: View>(
     ensures value { IsMet true (unwritten (V.cells view.now) writes.now) span (option_map pair_now result) }
     ensures rises { work.old.done ≤ work.new.done }
 {
-    let Some((key, cell)) = met_in(true, view, &span, work) else {
+    let Some((key, cell)) = first_of_view(true, view, &span, work) else {
         return None;
     };
     match writes.at(key) {
-        Some(_) => walked(view, writes, span, work),
+        Some(_) => last_unwritten_by_walk(view, writes, span, work),
         None => Some((key, cell)),
     }
 }
@@ -171,7 +171,7 @@ impl<V: View> Overlaid<V> {
         ensures rises { work.old.done ≤ work.new.done }
     {
         let put = self.writes.met_put(from_top, &span);
-        match kept(from_top, &self.view, &self.writes, span, &put, work) {
+        match first_unwritten(from_top, &self.view, &self.writes, span, &put, work) {
             Some(found) => Some(found),
             None => put,
         }
@@ -196,7 +196,7 @@ impl<V: View> Overlaid<V> {
         ensures rises { work.old.done ≤ work.new.done }
     {
         let put = self.writes.met_put(true, &span);
-        let Some((key, cell)) = last_kept(&self.view, &self.writes, span, work) else {
+        let Some((key, cell)) = last_unwritten(&self.view, &self.writes, span, work) else {
             return put;
         };
         if is_met_before(true, &put, key) {

@@ -7,6 +7,7 @@ ghost use Rattle.view_reads.specs.Places.{Wrote};
 ghost use Rattle.view_reads.specs.Recording.{read_key};
 
 use crate::View;
+use crate::joining::add_part;
 use crate::merging::Overlaid;
 use crate::writes::Writes;
 use ident_rules::{List, NoMemory};
@@ -69,7 +70,8 @@ impl<V: View> Recorder<V> {
 
     /// The first cell of a span and its key, as the span stands under what is written here; None exactly where it has no
     /// cell. The part of the span from its low edge to the cell that was found is added to the read set, and the whole span
-    /// where none was found. The view is looked at once, and once more for each removed cell that is passed.
+    /// where none was found; a look that begins just behind the cell that the last look found widens that part, so that a
+    /// walk from cell to cell is one part. The view is looked at once, and once more for each removed cell that is passed.
     ///
     /// Its one error is want of memory, after which the recorder is as before.
     pub fn first_in(
@@ -90,13 +92,13 @@ impl<V: View> Recorder<V> {
             found: copied_key(alloc, &found)?,
             from_top: false,
         };
-        self.parts.push(part)?;
+        add_part(&mut self.parts, part)?;
         Ok(found)
     }
 
     /// The last cell of a span and its key, as the span stands under what is written here; None exactly where it has no
     /// cell. The part of the span from its high edge down to the cell that was found is added to the read set, and the whole
-    /// span where none was found. The view is looked at as in `first_in`; but a span of ways back has no edge above, so where
+    /// span where none was found, as one part with the last one where it goes on there. The view is looked at as in `first_in`; but a span of ways back has no edge above, so where
     /// its last cell is overwritten here, all of it is walked through.
     ///
     /// Its one error is want of memory, after which the recorder is as before.
@@ -118,7 +120,7 @@ impl<V: View> Recorder<V> {
             found: copied_key(alloc, &found)?,
             from_top: true,
         };
-        self.parts.push(part)?;
+        add_part(&mut self.parts, part)?;
         Ok(found)
     }
 

@@ -49,7 +49,7 @@ fn is_behind(after: &Option<(Key, u32)>, link: &(Key, u32)) -> bool
 }
 
 /// Whether a span has a key.
-pub(crate) fn in_span(span: &Span, key: &CellKey) -> bool
+pub fn in_span(span: &Span, key: &CellKey) -> bool
     ensures { result ≡ in_span span.now key.now }
 {
     match (span, key) {
@@ -108,7 +108,7 @@ fn side(span: &Span, key: &CellKey) -> Ordering
 }
 
 /// Whether a key stands before a span, or, where the span is to be passed too, not behind it.
-pub(crate) fn is_passed(whole: bool, span: &Span, key: &CellKey) -> bool
+pub fn is_passed(whole: bool, span: &Span, key: &CellKey) -> bool
     ensures { result ≡ is_passed whole span.now key.now }
 {
     if whole {

@@ -41,23 +41,26 @@ fn places(back: bool) -> Span {
     }
 }
 
+/// A write of that value.
+fn written(key: CellKey, value: u64) -> Written {
+    Written {
+        key,
+        cell: Some(Cell::Counter(value)),
+    }
+}
+
 /// The cells 2, 4 and 6, and cells outside of all spans.
 fn filled_map(alloc: Global, back: bool) -> Result<CellMap, NoMemory> {
     let mut cells = Vec::new(alloc);
-    for number in [6, 2, 4] {
-        cells.push(Written {
-            key: place(back, number),
-            cell: Some(Cell::Counter(1)),
-        })?;
+    for key in [
+        place(back, 6),
+        place(back, 2),
+        place(back, 4),
+        CellKey::Row(key(0, 1)),
+        CellKey::Counter(1),
+    ] {
+        cells.push(written(key, 1))?;
     }
-    cells.push(Written {
-        key: CellKey::Row(key(0, 1)),
-        cell: Some(Cell::Counter(1)),
-    })?;
-    cells.push(Written {
-        key: CellKey::Counter(1),
-        cell: Some(Cell::Counter(1)),
-    })?;
     let mut map = CellMap::new(alloc);
     map.apply(WriteSet {
         cells: List::from_vec(cells),
@@ -72,6 +75,69 @@ fn is_at(found: Option<(&CellKey, &Cell)>, back: bool, number: u64, value: u64) 
         Some(_) => false,
         None => number == 0,
     }
+}
+
+/// Puts the value 2 at these places.
+fn put_all(recorder: &mut Recorder<CellMap>, back: bool, numbers: &[u64]) -> Result<(), NoMemory> {
+    for number in numbers {
+        recorder.put(place(back, *number), Cell::Counter(2))?;
+    }
+    Ok(())
+}
+
+/// Removes what stands at these places.
+fn remove_all(
+    recorder: &mut Recorder<CellMap>,
+    back: bool,
+    numbers: &[u64],
+) -> Result<(), NoMemory> {
+    for number in numbers {
+        recorder.remove(place(back, *number))?;
+    }
+    Ok(())
+}
+
+/// Puts cells outside of the span.
+fn put_outside(recorder: &mut Recorder<CellMap>, back: bool) -> Result<(), NoMemory> {
+    for key in [
+        place(!back, 5),
+        CellKey::Row(key(0, 9)),
+        CellKey::Counter(0),
+    ] {
+        recorder.put(key, Cell::Counter(3))?;
+    }
+    Ok(())
+}
+
+/// Whether a span's first and last cells are at these places.
+fn meets(
+    recorder: &mut Recorder<CellMap>,
+    span: &Span,
+    work: &mut Work,
+    back: bool,
+    first: (u64, u64),
+    last: (u64, u64),
+) -> Result<bool, NoMemory> {
+    let is_first = is_at(recorder.first_in(span, work)?, back, first.0, first.1);
+    let is_last = is_at(recorder.last_in(span, work)?, back, last.0, last.1);
+    Ok(is_first && is_last)
+}
+
+/// Whether the first and the last place are met behind these writes.
+fn meets_behind(
+    alloc: Global,
+    back: bool,
+    put: &[u64],
+    removed: &[u64],
+    first: (u64, u64),
+    last: (u64, u64),
+) -> Result<bool, NoMemory> {
+    let mut recorder = Recorder::new(alloc, filled_map(alloc, back)?);
+    put_all(&mut recorder, back, put)?;
+    remove_all(&mut recorder, back, removed)?;
+    put_outside(&mut recorder, back)?;
+    let mut work = Work::new();
+    meets(&mut recorder, &places(back), &mut work, back, first, last)
 }
 
 #[test]
@@ -92,102 +158,139 @@ fn meets_first_and_last(rt: HostRuntime) -> Result<(), Fail> {
     ];
     for back in [false, true] {
         for (put, removed, first, last) in rows {
-            let mut recorder = Recorder::new(rt.alloc(), filled_map(rt.alloc(), back)?);
-            let mut work = Work::new();
-            for number in put {
-                recorder.put(place(back, *number), Cell::Counter(2))?;
-            }
-            for number in removed {
-                recorder.remove(place(back, *number))?;
-            }
-            // outside of the span
-            recorder.put(place(!back, 5), Cell::Counter(3))?;
-            recorder.put(CellKey::Row(key(0, 9)), Cell::Counter(3))?;
-            recorder.put(CellKey::Counter(0), Cell::Counter(3))?;
-            let span = places(back);
-            assert!(rt; is_at(recorder.first_in(&span, &mut work)?, back, first.0, first.1));
-            assert!(rt; is_at(recorder.last_in(&span, &mut work)?, back, last.0, last.1));
+            assert!(rt; meets_behind(rt.alloc(), back, put, removed, first, last)?);
         }
     }
     Ok(())
 }
 
-#[test]
-fn meets_within_edges(rt: HostRuntime) -> Result<(), Fail> {
-    // the edges, and the first and the last place
-    let rows = [
-        (Edge::Open(Id::of_number(2)), Edge::End, 4, 6),
-        (Edge::Closed(Id::of_number(2)), Edge::End, 2, 6),
-        (Edge::End, Edge::Open(Id::of_number(6)), 2, 4),
-        (Edge::End, Edge::Closed(Id::of_number(6)), 2, 6),
-        (
-            Edge::Open(Id::of_number(2)),
-            Edge::Open(Id::of_number(4)),
-            0,
-            0,
-        ),
-    ];
-    let mut recorder = Recorder::new(rt.alloc(), filled_map(rt.alloc(), false)?);
-    let mut work = Work::new();
-    for (low, high, first, last) in rows {
-        let span = Span::Rows { kind: 1, low, high };
-        assert!(rt; is_at(recorder.first_in(&span, &mut work)?, false, first, 1));
-        assert!(rt; is_at(recorder.last_in(&span, &mut work)?, false, last, 1));
+/// The places behind the one with this number, or from the top before it; all where that is 0.
+fn places_past(back: bool, from_top: bool, number: u64) -> Span {
+    if number == 0 {
+        return places(back);
     }
-    assert_eq!(rt; work.done, 10);
-    Ok(())
+    let edge = Edge::Open(Id::of_number(number));
+    match (back, from_top) {
+        (true, _) => Span::Backs {
+            to: key(0, 1),
+            after: Some((key(1, number), 3)),
+        },
+        (false, true) => Span::Rows {
+            kind: 1,
+            low: Edge::End,
+            high: edge,
+        },
+        (false, false) => Span::Rows {
+            kind: 1,
+            low: edge,
+            high: Edge::End,
+        },
+    }
 }
 
-#[test]
-fn notes_what_it_reads(rt: HostRuntime) -> Result<(), Fail> {
-    let mut recorder = Recorder::new(rt.alloc(), filled_map(rt.alloc(), false)?);
+/// How many parts are read by looks past these places, one after the other.
+fn parts_of_looks(
+    alloc: Global,
+    back: bool,
+    from_top: bool,
+    numbers: &[u64],
+) -> Result<usize, NoMemory> {
+    let mut recorder = Recorder::new(alloc, filled_map(alloc, back)?);
     let mut work = Work::new();
-    assert!(rt; recorder.get(&place(false, 4), &mut work)?.is_some());
-    recorder.remove(place(false, 4))?;
-    recorder.put(place(false, 1), Cell::Back)?;
-    assert!(rt; recorder.get(&place(false, 4), &mut work)?.is_none());
-    assert!(rt; recorder.get(&place(false, 5), &mut work)?.is_none());
-    assert!(rt; recorder.first_in(&places(false), &mut work)?.is_some());
-    assert!(rt; recorder.last_in(&places(true), &mut work)?.is_none());
-    recorder.forget_writes();
-    assert!(rt; recorder.get(&place(false, 4), &mut work)?.is_some());
-    let (reads, writes) = recorder.finish();
-    let (keys, parts) = (reads.keys.as_slice(), reads.parts.as_slice());
-    assert_eq!(rt; keys.len(), 4);
-    assert!(rt; keys[2] == place(false, 5));
-    assert_eq!(rt; parts.len(), 2);
-    assert!(rt; parts[0].found.as_ref() == Some(&place(false, 1)));
-    assert!(rt; !parts[0].from_top);
-    assert!(rt; parts[1].found.is_none());
-    assert!(rt; parts[1].from_top);
-    assert!(rt; writes.cells.as_slice().is_empty());
-    Ok(())
+    for number in numbers {
+        let span = places_past(back, from_top, *number);
+        let _ = if from_top {
+            recorder.last_in(&span, &mut work)?
+        } else {
+            recorder.first_in(&span, &mut work)?
+        };
+    }
+    let (reads, _) = recorder.finish();
+    Ok(reads.parts.as_slice().len())
 }
 
 #[test]
-fn keeps_writes_in_order(rt: HostRuntime) -> Result<(), Fail> {
-    let shelf = filled_map(rt.alloc(), false)?;
-    let mut recorder = Recorder::new(rt.alloc(), &shelf);
+fn reads_a_walk_as_one_part(rt: HostRuntime) -> Result<(), Fail> {
+    // ways back or rows, from the top or not, the places behind which is looked, the parts
+    let rows: [(bool, bool, &[u64], usize); 7] = [
+        (false, false, &[0, 2, 4, 6], 1),
+        (true, false, &[0, 2, 4, 6], 1),
+        (false, true, &[0, 6, 4, 2], 1),
+        (false, false, &[2, 4], 1),
+        (false, false, &[0, 4], 2),
+        (false, false, &[0, 2, 2, 0], 3),
+        (true, true, &[0, 2], 2),
+    ];
+    for (back, from_top, numbers, parts) in rows {
+        assert_eq!(rt; parts_of_looks(rt.alloc(), back, from_top, numbers)?, parts);
+    }
+    Ok(())
+}
+
+/// Whether a key is found.
+fn finds(recorder: &mut Recorder<CellMap>, number: u64) -> Result<bool, NoMemory> {
+    Ok(
+        recorder
+            .get(&place(false, number), &mut Work::new())?
+            .is_some(),
+    )
+}
+
+/// How many keys are noted by looks at three cells, a removed one among them; 0 where one is answered otherwise.
+fn keys_of_looks(alloc: Global) -> Result<usize, NoMemory> {
+    let mut recorder = Recorder::new(alloc, filled_map(alloc, false)?);
+    recorder.remove(place(false, 4))?;
+    let found = finds(&mut recorder, 2)? && !finds(&mut recorder, 4)? && !finds(&mut recorder, 5)?;
+    recorder.forget_writes();
+    let again = finds(&mut recorder, 4)?;
+    let (reads, writes) = recorder.finish();
+    if !found || !again || !writes.cells.as_slice().is_empty() {
+        return Ok(0);
+    }
+    Ok(reads.keys.as_slice().len())
+}
+
+#[test]
+fn notes_the_keys_it_looks_at(rt: HostRuntime) -> Result<(), Fail> {
+    assert_eq!(rt; keys_of_looks(rt.alloc())?, 4);
+    Ok(())
+}
+
+/// The writes of a recorder over a shelf.
+fn writes_over(alloc: Global) -> Result<WriteSet, NoMemory> {
+    let shelf = filled_map(alloc, false)?;
+    let mut recorder = Recorder::new(alloc, &shelf);
     for number in [5, 1, 10, 5] {
         recorder.put(place(false, number), Cell::Counter(number))?;
     }
     recorder.remove(place(false, 3))?;
-    assert!(rt; recorder.get(&place(false, 4), &mut Work::new())?.is_some());
-    let (_, writes) = recorder.finish();
-    let writes = writes.cells.as_slice();
-    assert_eq!(rt; writes.len(), 4);
-    assert!(rt; writes[0].key == place(false, 1));
-    assert!(rt; writes[1].key == place(false, 3) && writes[1].cell.is_none());
-    assert!(rt; writes[2].key == place(false, 5) && writes[2].cell.is_some());
-    assert!(rt; writes[3].key == place(false, 10));
-    Ok(())
+    Ok(recorder.finish().1)
+}
+
+/// Whether writes stand in order, the third of them removed.
+fn are_in_order(writes: &[Written]) -> bool {
+    match writes {
+        [one, two, three, four] => {
+            one.key == place(false, 1)
+                && two.key == place(false, 3)
+                && two.cell.is_none()
+                && three.key == place(false, 5)
+                && three.cell.is_some()
+                && four.key == place(false, 10)
+        }
+        _ => false,
+    }
 }
 
 #[test]
-fn applies_writes(rt: HostRuntime) -> Result<(), Fail> {
-    let alloc = rt.alloc();
-    let mut map = filled_map(alloc, false)?;
-    let mut work = Work::new();
+fn keeps_writes_in_order(rt: HostRuntime) -> Result<(), Fail> {
+    let writes = writes_over(rt.alloc())?;
+    assert!(rt; are_in_order(writes.cells.as_slice()));
+    Ok(())
+}
+
+/// A map behind writes.
+fn applied(alloc: Global) -> Result<CellMap, NoMemory> {
     let mut cells = Vec::new(alloc);
     for (number, cell) in [
         (2, None),
@@ -200,15 +303,26 @@ fn applies_writes(rt: HostRuntime) -> Result<(), Fail> {
             cell,
         })?;
     }
+    let mut map = filled_map(alloc, false)?;
     map.apply(WriteSet {
         cells: List::from_vec(cells),
     })?;
+    Ok(map)
+}
+
+/// The number in a cell of a map, 0 where there is none.
+fn number_at(map: &CellMap, number: u64) -> u64 {
+    match map.get(&place(false, number), &mut Work::new()) {
+        Some(Cell::Counter(n)) => *n,
+        _ => 0,
+    }
+}
+
+#[test]
+fn applies_writes(rt: HostRuntime) -> Result<(), Fail> {
+    let map = applied(rt.alloc())?;
     for (number, value) in [(2, 0), (3, 5), (4, 7), (6, 1)] {
-        let found = match map.get(&place(false, number), &mut work) {
-            Some(Cell::Counter(n)) => *n,
-            _ => 0,
-        };
-        assert_eq!(rt; found, value, "cell {number}");
+        assert_eq!(rt; number_at(&map, number), value, "cell {number}");
     }
     Ok(())
 }

@@ -18,7 +18,7 @@ use Rattle.world_cells.specs.CellOrder.{cell_key_cmp}
 use Rattle.world_cells.specs.Reads.{is_above, is_below, link_cmp, in_span}
 use Rattle.view_reads.specs.Narrowing.{is_behind}
 use Rattle.view_reads.specs.Sides.{between_edges, side, is_passed}
-use Rattle.view_reads.proofs.Narrows.{above_more, below_more, behind_more}
+use Rattle.view_reads.specs.SpanLaws.{above_more, below_more, behind_more}
 
 -- ---- in a span
 

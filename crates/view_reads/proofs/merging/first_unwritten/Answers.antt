@@ -1,7 +1,7 @@
 use Rattle.std.proofs.Common.{sym, subst, ◌∙◌, ◌<◌, arith}
 use Rattle.world_cells.specs.declared.spans.Span.{Span}
 use Rattle.view_reads.proofs.Merges.{IsLeft, keys_in, left_all, left_late, left_past, fewer_left, written_there, at_most_all, work_step}
-use Rattle.view_reads.proofs.merging.kept.Goals as goal
+use Rattle.view_reads.proofs.merging.first_unwritten.Goals as goal
 
 pub loop-key-init : goal.loop-key-init
 loop-key-init g c = record {

@@ -1,4 +1,4 @@
--- What is left of a span behind a key of it.
+-- Laws of spans: what follows of keys above and below one of a span, and what is left of the span behind it.
 use Rattle.std.proofs.Common.{inl, inr, ◌≡◌, ℕ, List, refl, sym, ap, ◌∙◌, Bool, true, false, Option, Some, None}
 use Rattle.std.specs.Prelude.{◌==◌, ◌&&◌, not, IsTrue}
 use Rattle.std.specs.declared.cmp.Ordering.{Ordering}
@@ -15,11 +15,18 @@ use Rattle.world_cells.specs.declared.spans.Edge.{Edge}
 use Rattle.world_cells.specs.declared.spans.Edge.TheVariants as edge
 use Rattle.world_cells.specs.declared.spans.Span.{Span}
 use Rattle.world_cells.specs.declared.spans.Span.TheVariants as span
-use Rattle.world_cells.specs.CellOrder.{cell_key_cmp}
+use Rattle.world_cells.specs.CellOrder.{cell_key_cmp, cell_key_cmp_total}
 use Rattle.world_cells.specs.Reads.{is_above, is_below, link_cmp, in_span}
 use Rattle.std.proofs.lemmas.Bool.Decides.{eqb_tells}
 use Rattle.view_reads.specs.Narrowing.{is_behind, is_met, narrowed, CanNarrow}
-use Rattle.view_reads.proofs.Sorted.{is_less}
+
+pub is_less : (o : Ordering) → is_lt o ≡ true → o ≡ Less
+is_less Less e = refl
+is_less Equal e = cc e
+is_less Greater e = cc e
+
+pub less_trans : (i j k : CellKey) → is_lt (cell_key_cmp i j) ≡ true → is_lt (cell_key_cmp j k) ≡ true → is_lt (cell_key_cmp i k) ≡ true
+less_trans i j k p q = ap is_lt (cell_key_cmp_total.trans i j k (is_less _ p) (is_less _ q))
 
 pub and_true : (a b : Bool) → (a && b) ≡ true → (a ≡ true) × (b ≡ true)
 and_true true b h = (refl, h)
@@ -66,13 +73,13 @@ below_more (edge.Closed high) x y h less = ap (λ o. not (is_gt o)) (less_then i
 
 -- ---- rows
 
-same_number : (m n : ℕ) → (m == n) ≡ true → m ≡ n
+pub same_number : (m n : ℕ) → (m == n) ≡ true → m ≡ n
 same_number m n e = elim (eqb_tells m n) [ inl h ↦ h.1 | inr h ↦ cc (e, h.0) ]
 
 pub tied : (m n : ℕ) → m ≡ n → nat_cmp m n ≡ Equal
 tied m n e = ap (nat_cmp m) (sym e) ∙ tied_itself nat_cmp_total m
 
-row_less : (k j : Key) → k.kind ≡ j.kind → is_lt (cell_key_cmp (cell_key.Row k) (cell_key.Row j)) ≡ is_lt (id_cmp k.id j.id)
+pub row_less : (k j : Key) → k.kind ≡ j.kind → is_lt (cell_key_cmp (cell_key.Row k) (cell_key.Row j)) ≡ is_lt (id_cmp k.id j.id)
 row_less k j e = then_less (key_cmp k j) ∙ ap (λ o. is_lt (ordering_then o (id_cmp k.id j.id))) (tied k.kind j.kind e)
 
 -- a test of each key passed, and one that follows from the last

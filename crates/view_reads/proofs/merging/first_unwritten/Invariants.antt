@@ -1,6 +1,6 @@
 use Rattle.std.proofs.Common.{◌+◌, ◌≤◌, length}
 use Rattle.view_reads.proofs.Merges.{IsLeft, keys_in}
-use Rattle.view_reads.proofs.merging.kept.Given as goal
+use Rattle.view_reads.proofs.merging.first_unwritten.Given as goal
 
 abbrev pub invariant-loop-key : goal.invariant-loop-key
 invariant-loop-key g l = record {

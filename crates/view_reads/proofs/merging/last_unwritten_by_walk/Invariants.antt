@@ -5,7 +5,7 @@ use Rattle.view_reads.specs.Merging.{unwritten}
 use Rattle.view_reads.specs.Recording.{pair_now}
 use Rattle.view_reads.proofs.Ranks.{backs_left}
 use Rattle.view_reads.proofs.Walks.{IsWalked}
-use Rattle.view_reads.proofs.merging.walked.Given as goal
+use Rattle.view_reads.proofs.merging.last_unwritten_by_walk.Given as goal
 
 abbrev pub invariant-loop-key : goal.invariant-loop-key
 invariant-loop-key g l = record {

@@ -5,7 +5,7 @@ use Rattle.view_reads.specs.Bounds.{IsBoundedBacks}
 use Rattle.view_reads.specs.Recording.{pair_now}
 use Rattle.view_reads.proofs.Ranks.{backs_left, fewer_backs, still_bounded}
 use Rattle.view_reads.proofs.Walks.{walk_on, walk_end}
-use Rattle.view_reads.proofs.merging.walked.Goals as goal
+use Rattle.view_reads.proofs.merging.last_unwritten_by_walk.Goals as goal
 
 pub loop-key-smaller : goal.loop-key-smaller
 loop-key-smaller g c =
