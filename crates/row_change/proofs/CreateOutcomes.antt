@@ -29,10 +29,12 @@ use Rattle.view_reads.specs.Recording.{Recording}
 use Rattle.ident_rules.specs.declared.stops.Stop.{Stop}
 use Rattle.ident_rules.specs.declared.stops.Stop.TheVariants.{Because, NoMemory}
 use Rattle.row_change.specs.declared.places.There.TheVariants as there
-use Rattle.row_change.specs.Trial.{StandsBehind, IsOutcome, StaysInReach, read_of}
-use Rattle.row_change.specs.Steps.{LooksAt, Sees, Judges, LeadsOn, is_there}
+use Rattle.row_change.specs.Trial.{IsOutcome, read_of, ReadsInReach}
+use Rattle.trial_steps.specs.Steps.{StandsBehind}
+use Rattle.trial_steps.specs.Steps.{LooksAt, Sees, RefusesOr, LeadsOn}
+use Rattle.row_change.specs.Steps.{is_there}
 use Rattle.row_change.specs.Creating.{refuse_id, is_looked_for, next_after, with_counter}
-use Rattle.row_change.proofs.StepLaws.{row_in_left, row_in_right}
+use Rattle.trial_steps.specs.StepLaws.{row_in_left, row_in_right}
 use Rattle.row_change.proofs.NewIds.{new_free}
 
 -- ---- any operation
@@ -50,13 +52,13 @@ told_refusal schema at operation lids new w now after e r is said =
 
 -- a step without a value, whose refusal is that of the operation
 pub told_stop : {V T : Type 0} (schema : Schema) (at : List ℕ) (operation : Operation) (lids new : Lids) (w now : World) (after : Recording V) (mine : Option Refusal) (P : T → Type 0) (stop : Stop Refusal)
-    → ((e : Refusal) → mine ≡ Some e → refused schema now lids operation ≡ Some e) → Judges at mine P (Err stop)
+    → ((e : Refusal) → mine ≡ Some e → refused schema now lids operation ≡ Some e) → RefusesOr at mine P (Err stop)
     → IsOutcome schema at (apply schema now operation lids) (read_of {T = Option Key} (Err stop)) new w after
 told_stop schema at operation lids new w now after mine P (Because r) so told = told_refusal schema at operation lids new w now after told.0 r (so told.0 told.1) told.2
 told_stop schema at operation lids new w now after mine P NoMemory so told = no_memory schema at (apply schema now operation lids) new w after
 
 -- nothing new was read
-pub reads_nothing : {V : Type 0} (schema : Schema) (cells : V → Cells) (operation : Operation) (lids : Lids) (a z : Recording V) → z.reads ≡ a.reads → StaysInReach schema cells operation lids a z
+pub reads_nothing : {V : Type 0} (schema : Schema) (cells : V → Cells) (operation : Operation) (lids : Lids) (a z : Recording V) → z.reads ≡ a.reads → ReadsInReach schema cells operation lids a z
 reads_nothing schema cells operation lids a z is w now valid same now_valid leads k new old = cc (ap (λ r. covers r k) is, new, old)
 
 -- ---- a create: its refusals, in order
@@ -161,13 +163,13 @@ module _ (lids : Lids) (kind : ℕ) (id lid : Option (List ℕ)) (values : List 
   links_in_reach now k e = or_left _ _ (row_in_right (created_key now kind id ∷ []) (linked_keys (bind lids kind lid (created_id now kind id)) links) k e)
 
   -- only the id was looked for
-  pub reads_id : {V : Type 0} (schema : Schema) (cells : V → Cells) (a b : Recording V) → LooksAt (is_looked_for kind id) a b → StaysInReach schema cells (Create kind id lid values links) lids a b
+  pub reads_id : {V : Type 0} (schema : Schema) (cells : V → Cells) (a b : Recording V) → LooksAt (is_looked_for kind id) a b → ReadsInReach schema cells (Create kind id lid values links) lids a b
   reads_id schema cells a b looked w now valid same now_valid leads k new old = id_in_reach now k (looked.within k new old)
 
   -- and then the linkages
   pub reads_links : {V : Type 0} (schema : Schema) (cells : V → Cells) (a b c z : Recording V) (x : List ℕ) (bound : Lids)
       → LooksAt (is_looked_for kind id) a b → Sees schema cells a b (λ now. x ≡ created_id now kind id) → bound ≡ bind lids kind lid x → LooksAt (is_row_in (linked_keys bound links)) b c → z.reads ≡ c.reads
-      → StaysInReach schema cells (Create kind id lid values links) lids a z
+      → ReadsInReach schema cells (Create kind id lid values links) lids a z
   reads_links schema cells a b c z x bound first seen bound_is second is w now valid same now_valid leads k new old = by (covers b.reads k) refl
     where
       behind : StandsBehind schema (cells a.store) b.reads w now

@@ -10,8 +10,8 @@ use Rattle.store_model.specs.Reach.{is_row_in}
 use Rattle.view_reads.specs.Recording.{Recording}
 use Rattle.ident_rules.specs.declared.stops.Stop.{Stop}
 use Rattle.ident_rules.specs.declared.stops.Stop.TheVariants.{Because, NoMemory}
-use Rattle.row_change.specs.Steps.{LooksAt, Judges}
-use Rattle.row_change.proofs.StepLaws.{looks_more, looks_rows_on, row_in_left}
+use Rattle.trial_steps.specs.Steps.{LooksAt, RefusesOr}
+use Rattle.trial_steps.specs.StepLaws.{looks_more, looks_rows_on, row_in_left}
 
 -- ---- parts of a list
 
@@ -64,7 +64,7 @@ first_before xs ys r e = first_told xs ys r e
 
 -- an answer without a value is passed on
 pub judges_stop : {T U : Type 0} (at : List ℕ) (mine whole : Option Refusal) (P : T → Type 0) (Q : U → Type 0) (stop : Stop Refusal) → ((r : Refusal) → mine ≡ Some r → whole ≡ Some r)
-    → Judges at mine P (Err stop) → Judges at whole Q (Err stop)
+    → RefusesOr at mine P (Err stop) → RefusesOr at whole Q (Err stop)
 judges_stop at mine whole P Q (Because r) more told = (told.0, more told.0 told.1, told.2)
 judges_stop at mine whole P Q NoMemory more told = tt
 
@@ -106,6 +106,6 @@ err_passed (Ok x) stop is h = cc is
 err_passed (Err e) stop is h = ap Err h
 
 pub judges_passed : {T U : Type 0} (at : List ℕ) (mine whole : Option Refusal) (P : T → Type 0) (Q : U → Type 0) (stop : Stop Refusal) (r : Result U (Stop Refusal)) → IsErr r → IsErrAnd r (λ e. e ≡ stop)
-    → ((x : Refusal) → mine ≡ Some x → whole ≡ Some x) → Judges at mine P (Err stop) → Judges at whole Q r
+    → ((x : Refusal) → mine ≡ Some x → whole ≡ Some x) → RefusesOr at mine P (Err stop) → RefusesOr at whole Q r
 judges_passed {T} {U} at mine whole P Q stop r is passed more told =
-    subst (λ (x : Result U (Stop Refusal)). Judges at whole Q x) (sym (err_passed r stop is passed)) (judges_stop at mine whole P Q stop more told)
+    subst (λ (x : Result U (Stop Refusal)). RefusesOr at whole Q x) (sym (err_passed r stop is passed)) (judges_stop at mine whole P Q stop more told)

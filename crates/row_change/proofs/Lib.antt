@@ -3,8 +3,6 @@ pub mod Leading
 pub mod Rewriting
 pub mod Referring
 pub mod Removing
-pub mod StepLaws
-pub mod Finding
 pub mod Targets
 pub mod Theres
 pub mod Judging

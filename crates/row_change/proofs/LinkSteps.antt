@@ -9,7 +9,7 @@ use Rattle.world_cells.specs.World.{no_link}
 use Rattle.store_model.specs.Change.{Lids, refuse_linkage, append_new, member_ids, set_links, link_of}
 use Rattle.store_model.specs.Reach.{is_row_in, member_keys, linked_keys}
 use Rattle.view_reads.specs.Recording.{Recording}
-use Rattle.row_change.specs.Steps.{LooksAt}
+use Rattle.trial_steps.specs.Steps.{LooksAt}
 
 pub linked_keys_split : (lids : Lids) (xs ys : List (ℕ × List Member)) → linked_keys lids (xs ++ ys) ≡ linked_keys lids xs ++ linked_keys lids ys
 linked_keys_split lids xs ys = flat_map-append (λ l. member_keys lids l.1) xs ys

@@ -16,25 +16,25 @@ use Rattle.store_model.specs.Valid.{same_id}
 use Rattle.store_model.specs.Change.{Lids, named_row, named_ids, refuse_member, refuse_linkage, first_of, append_new, member_ids, on_link}
 use Rattle.error_objects.specs.declared.refusals.Refusal.{Refusal}
 use Rattle.ident_rules.specs.declared.stops.Stop.{Stop}
-use Rattle.row_change.specs.Steps.{Judges}
+use Rattle.trial_steps.specs.Steps.{RefusesOr}
 use Rattle.row_change.proofs.Judging.{next_taken}
 
 -- ---- what is told, by what was passed
 
 pub judged_joined : (at : List ℕ) (lids : Lids) (there : Key → Bool) (linkage : List ℕ) (old old' : List (List ℕ)) (members members' : List Member) (result : Result (List (List ℕ)) (Stop Refusal))
     → old ≡ old' → members ≡ members'
-    → Judges at (refuse_linkage there lids linkage old members) (λ ids. ids ≡ append_new old (member_ids lids members)) result
-    → Judges at (refuse_linkage there lids linkage old' members') (λ ids. ids ≡ append_new old' (member_ids lids members')) result
+    → RefusesOr at (refuse_linkage there lids linkage old members) (λ ids. ids ≡ append_new old (member_ids lids members)) result
+    → RefusesOr at (refuse_linkage there lids linkage old' members') (λ ids. ids ≡ append_new old' (member_ids lids members')) result
 judged_joined at lids there linkage old old' members members' result same_old same_members told =
-    subst (λ (ms : List Member). Judges at (refuse_linkage there lids linkage old' ms) (λ ids. ids ≡ append_new old' (member_ids lids ms)) result) same_members
-    (subst (λ (o : List (List ℕ)). Judges at (refuse_linkage there lids linkage o members) (λ ids. ids ≡ append_new o (member_ids lids members)) result) same_old told)
+    subst (λ (ms : List Member). RefusesOr at (refuse_linkage there lids linkage old' ms) (λ ids. ids ≡ append_new old' (member_ids lids ms)) result) same_members
+    (subst (λ (o : List (List ℕ)). RefusesOr at (refuse_linkage there lids linkage o members) (λ ids. ids ≡ append_new o (member_ids lids members)) result) same_old told)
 
 pub judged_members : (at : List ℕ) (lids : Lids) (there : Key → Bool) (linkage : List ℕ) (members members' : List Member) (result : Result (List (List ℕ)) (Stop Refusal))
     → members ≡ members'
-    → Judges at (first_of (map (refuse_member there lids linkage) members)) (λ ids. ids ≡ member_ids lids members) result
-    → Judges at (first_of (map (refuse_member there lids linkage) members')) (λ ids. ids ≡ member_ids lids members') result
+    → RefusesOr at (first_of (map (refuse_member there lids linkage) members)) (λ ids. ids ≡ member_ids lids members) result
+    → RefusesOr at (first_of (map (refuse_member there lids linkage) members')) (λ ids. ids ≡ member_ids lids members') result
 judged_members at lids there linkage members members' result same told =
-    subst (λ (ms : List Member). Judges at (first_of (map (refuse_member there lids linkage) ms)) (λ ids. ids ≡ member_ids lids ms) result) same told
+    subst (λ (ms : List Member). RefusesOr at (first_of (map (refuse_member there lids linkage) ms)) (λ ids. ids ≡ member_ids lids ms) result) same told
 
 -- the ids of the row that is named
 pub named_ids_are : (now : World) (lids : Lids) (who : Who) (rel : ℕ) (row : Row) → named_row now lids who ≡ Some row → ids_of (link_at row rel) ≡ named_ids now lids who rel

@@ -32,11 +32,11 @@ use Rattle.store_model.specs.Valid.{IsValid}
 use Rattle.store_model.specs.Change.{is_referenced}
 use Rattle.store_model.specs.Reach.{is_back_to}
 use Rattle.view_reads.specs.Narrowing.{is_behind}
-use Rattle.view_reads.specs.Recording.{Recording, LookedFirst, read_part}
-use Rattle.view_reads.specs.RecordingLaws.{part_still_read}
-use Rattle.row_change.specs.Steps.{LooksAt}
+use Rattle.view_reads.specs.Recording.{Recording, LookedFirst, found_key}
+use Rattle.view_reads.specs.RecordingLaws.{first_follows, only_part}
+use Rattle.trial_steps.specs.Steps.{LooksAt}
 use Rattle.row_change.specs.WaysBack.{link_found, FitsLink, IsFirstLink}
-use Rattle.row_change.proofs.StepLaws.{looks_still}
+use Rattle.trial_steps.specs.StepLaws.{looks_still}
 
 -- ---- tests
 
@@ -57,19 +57,6 @@ turned_key x y = (eq_by_cmp_equiv key_cmp_total).symm x y
 
 -- ---- what a look into the ways back from a key looks at
 
-newly : (a b c : Bool) → (a || (b || (c || false))) ≡ true → (a || b) ≡ false → c ≡ true
-newly true b c e f = cc f
-newly false true c e f = cc f
-newly false false true e f = refl
-newly false false false e f = cc e
-
--- what is newly covered when a part was read lies in its span
-only_span : (reads : ReadSet) (s : Span) (found : Option CellKey) (k : CellKey) → IsTrue (covers (read_part reads s found false) k) → IsFalse (covers reads k) → in_span s k ≡ true
-only_span reads s found k new old =
-    and_left (in_span s k) _
-    (newly (list_any (same_cell_key k) reads.keys) (list_any (λ part. in_part part k) reads.parts) (in_part (record { span = s; found = found; from_top = false }) k)
-    (ap (λ b. list_any (same_cell_key k) reads.keys || b) (sym (list_any-append (λ part. in_part part k) reads.parts (record { span = s; found = found; from_top = false } ∷ []))) ∙ new) old)
-
 back_in : (key : Key) (after : Option (Key × ℕ)) (k : CellKey) → in_span (span.Backs key after) k ≡ true → IsTrue (is_back_to (key ∷ []) k)
 back_in key after (cell_key.Row k) e = cc e
 back_in key after (cell_key.Back to from rel) e = or_left (same_key to key) false (turned_key to key ∙ and_left (same_key key to) _ e)
@@ -77,12 +64,11 @@ back_in key after (cell_key.Counter n) e = cc e
 
 pub looks_back : {V : Type 0} (cells : V → Cells) (old : Recording V) (key : Key) (after : Option (Key × ℕ)) (result : Result (Option (Bor CellKey × Bor Cell)) NoMemory) (new : Recording V)
     → LookedFirst cells old (span.Backs key after) result new → LooksAt (is_back_to (key ∷ [])) old new
-looks_back cells old key after (Ok found) new looked =
-    subst (λ (r : Recording _). LooksAt (is_back_to (key ∷ [])) old r) (sym looked.1) (record {
-      follows = record { store = refl; reads = λ k e. part_still_read old.reads (span.Backs key after) (option_map (λ p. p.0.now) found) false k e };
-      writes = refl;
-      within = λ k more less. back_in key after k (only_span old.reads (span.Backs key after) (option_map (λ p. p.0.now) found) k more less);
-    })
+looks_back cells old key after (Ok found) new looked = record {
+  follows = first_follows cells old (span.Backs key after) found new looked;
+  writes = looked.1.writes;
+  within = λ k more less. back_in key after k (and_left (in_span (span.Backs key after) k) _ (only_part old.reads new.reads (span.Backs key after) (found_key found) false looked.1.reads k more less));
+}
 looks_back cells old key after (Err e) new looked = looks_still (is_back_to (key ∷ [])) old new looked
 
 -- ---- the first link that is found

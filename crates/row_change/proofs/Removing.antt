@@ -22,9 +22,10 @@ use Rattle.store_model.specs.Reach.{is_row_in, is_back_to, target_keys, reach_op
 use Rattle.view_reads.specs.Recording.{Recording}
 use Rattle.ident_rules.specs.declared.stops.Stop.{Stop}
 use Rattle.ident_rules.specs.declared.stops.Stop.TheVariants.{Because, NoMemory}
-use Rattle.row_change.specs.Trial.{StandsBehind, IsOutcome, TellsChange, StaysInReach, read_of}
-use Rattle.row_change.specs.Steps.{LooksAt, Sees, Judges, LeavesReads, LeadsOn}
-use Rattle.row_change.proofs.StepLaws.{sees_before, sees_after}
+use Rattle.row_change.specs.Trial.{IsOutcome, TellsChange, read_of, ReadsInReach}
+use Rattle.trial_steps.specs.Steps.{StandsBehind}
+use Rattle.trial_steps.specs.Steps.{LooksAt, Sees, RefusesOr, LeavesReads, LeadsOn}
+use Rattle.trial_steps.specs.StepLaws.{sees_before, sees_after}
 use Rattle.row_change.proofs.Judging.{err_passed}
 
 -- ---- the row that is named
@@ -50,7 +51,7 @@ want_told schema at (Err refusal) lids w after = tt
 
 -- a stop at the first check of an operation
 pub stop_told : {V T : Type 0} (schema : Schema) (at : List ℕ) (expected : Option Refusal) (P : T → Type 0) (stop : Stop Refusal) (rest : List (Option Refusal)) (changed : Changed) (lids : Lids) (w : World) (after : Recording V)
-    → Judges at expected P (Err stop) → IsOutcome schema at (outcome (first_of (expected ∷ rest)) changed) (read_of (Err stop)) lids w after
+    → RefusesOr at expected P (Err stop) → IsOutcome schema at (outcome (first_of (expected ∷ rest)) changed) (read_of (Err stop)) lids w after
 stop_told schema at expected P (Because r) rest changed lids w after judged =
     subst (λ (o : Option Refusal). IsOutcome schema at (outcome (first_of (o ∷ rest)) changed) (read.Refused r) lids w after) (sym judged.1) judged.2
 stop_told schema at expected P NoMemory rest changed lids w after judged = want_told schema at (outcome (first_of (expected ∷ rest)) changed) lids w after
@@ -83,7 +84,7 @@ remove_done schema at now lids who key w after there named free leads =
 module _ {V : Type 0} (schema : Schema) (cells : V → Cells) (at : List ℕ) (lids : Lids) (who : Who) where
   -- what is seen of the row that is found
   abbrev IsTarget : Result Row (Stop Refusal) → World → Type 0
-  IsTarget result now = Judges at (refuse_target now lids who) (λ row. named_row now lids who ≡ Some row) result
+  IsTarget result now = RefusesOr at (refuse_target now lids who) (λ row. named_row now lids who ≡ Some row) result
 
   -- a stop where it is looked for
   tells_stop : (before after : Recording V) (stop : Stop Refusal) → Sees schema cells before after (IsTarget (Err stop))
@@ -125,7 +126,7 @@ module _ {V : Type 0} (schema : Schema) (cells : V → Cells) (at : List ℕ) (l
 
   pub reaches : (before mid after : Recording V) (row : Row)
       → LooksAt (is_row_in (target_keys lids who)) before mid → Sees schema cells before mid (IsTarget (Ok row)) → LooksAt (is_back_to (row.key ∷ [])) mid after
-      → StaysInReach schema cells (operation.Remove who) lids before after
+      → ReadsInReach schema cells (operation.Remove who) lids before after
   reaches before mid after row looks seen looks_back w now valid same now_valid leads k new old = by (covers mid.reads k) refl
     where
       keys : target_keys lids who ≡ row.key ∷ []
@@ -141,6 +142,6 @@ module _ {V : Type 0} (schema : Schema) (cells : V → Cells) (at : List ℕ) (l
   -- what is written reads nothing
   pub reaches_writing : (before mid after last : Recording V) (row : Row)
       → LooksAt (is_row_in (target_keys lids who)) before mid → Sees schema cells before mid (IsTarget (Ok row)) → LooksAt (is_back_to (row.key ∷ [])) mid after → LeavesReads after last
-      → StaysInReach schema cells (operation.Remove who) lids before last
+      → ReadsInReach schema cells (operation.Remove who) lids before last
   reaches_writing before mid after last row looks seen looks_back leaves w now valid same now_valid leads k new old =
       reaches before mid after row looks seen looks_back w now valid same now_valid leads k (subst (λ (reads : ReadSet). IsTrue (covers reads k)) leaves.reads new) old

@@ -23,8 +23,9 @@ use Rattle.store_model.specs.Reach.{reach_operation}
 use Rattle.view_reads.specs.Recording.{Recording, Follows}
 use Rattle.ident_rules.specs.declared.stops.Stop.{Stop}
 use Rattle.ident_rules.specs.declared.stops.Stop.TheVariants.{Because, NoMemory}
-use Rattle.row_change.specs.Trial.{StandsBehind, IsOutcome, TellsChange, StaysInReach, read_of}
-use Rattle.row_change.specs.Steps.{LooksAt, Sees, Judges, LeavesReads, LeadsOn}
+use Rattle.row_change.specs.Trial.{IsOutcome, TellsChange, read_of, ReadsInReach}
+use Rattle.trial_steps.specs.Steps.{StandsBehind}
+use Rattle.trial_steps.specs.Steps.{LooksAt, Sees, RefusesOr, LeavesReads, LeadsOn}
 use Rattle.row_change.specs.Rewrites.{IsRewrite}
 use Rattle.std.proofs.lemmas.Slice.Zip.{AllZip-long}
 use Rattle.std.proofs.lemmas.List.{length-set}
@@ -38,7 +39,7 @@ memory_outcome schema at (Ok changed) lids w after = tt
 memory_outcome schema at (Err r) lids w after = tt
 
 stop_outcome : {T V : Type 0} (schema : Schema) (at : List ℕ) (expected : Option Refusal) (changed : Changed) (P : T → Type 0) (stop : Stop Refusal) (lids : Lids) (w : World) (after : Recording V)
-    → Judges at expected P (Err stop) → IsOutcome schema at (outcome expected changed) (read_of (Err stop)) lids w after
+    → RefusesOr at expected P (Err stop) → IsOutcome schema at (outcome expected changed) (read_of (Err stop)) lids w after
 stop_outcome schema at expected changed P (Because r) lids w after told =
     subst (λ (e : Option Refusal). IsOutcome schema at (outcome e changed) (read.Refused r) lids w after) (sym told.1) told.2
 stop_outcome schema at expected changed P NoMemory lids w after told = memory_outcome schema at (outcome expected changed) lids w after
@@ -46,7 +47,7 @@ stop_outcome schema at expected changed P NoMemory lids w after told = memory_ou
 -- the result of an operation that was not done
 pub stopped : {T V : Type 0} (schema : Schema) (cells : V → Cells) (at : List ℕ) (operation : Operation) (old_lids new_lids : Lids) (a b : Recording V) (P : World → T → Type 0) (stop : Stop Refusal) (r : Result (Option Key) (Stop Refusal))
     → IsErr r → IsErrAnd r (λ e. e ≡ stop)
-    → Sees schema cells a b (λ now. Judges at (refused schema now old_lids operation) (P now) (Err stop))
+    → Sees schema cells a b (λ now. RefusesOr at (refused schema now old_lids operation) (P now) (Err stop))
     → TellsChange schema cells at operation old_lids new_lids a b (read_of r)
 stopped schema cells at operation old_lids new_lids a b P stop r is passed sees = λ w now behind leads.
     subst (λ (x : Result (Option Key) (Stop Refusal)). IsOutcome schema at (apply schema now operation old_lids) (read_of x) new_lids w b) (sym (err_passed r stop is passed))
@@ -67,11 +68,11 @@ follows_written a b c f leaves = record {
 }
 
 pub in_reach : {V : Type 0} (schema : Schema) (cells : V → Cells) (operation : Operation) (lids : Lids) (test : CellKey → Bool) (a b : Recording V)
-    → ((now : World) (k : CellKey) → IsTrue (test k) → IsTrue (reach_operation now lids operation k)) → LooksAt test a b → StaysInReach schema cells operation lids a b
+    → ((now : World) (k : CellKey) → IsTrue (test k) → IsTrue (reach_operation now lids operation k)) → LooksAt test a b → ReadsInReach schema cells operation lids a b
 in_reach schema cells operation lids test a b within looks = λ w now valid same now_valid leads k new old. within now k (looks.within k new old)
 
 pub in_reach_written : {V : Type 0} (schema : Schema) (cells : V → Cells) (operation : Operation) (lids : Lids) (a b c : Recording V)
-    → LeavesReads b c → StaysInReach schema cells operation lids a b → StaysInReach schema cells operation lids a c
+    → LeavesReads b c → ReadsInReach schema cells operation lids a b → ReadsInReach schema cells operation lids a c
 in_reach_written schema cells operation lids a b c leaves within = λ w now valid same now_valid leads k new old.
     within w now valid same now_valid leads k (subst (λ (reads : ReadSet). IsTrue (covers reads k)) leaves.reads new) old
 
@@ -152,12 +153,12 @@ first_alone (Some r) = refl
 -- the links that are read, by what was passed
 pub judged_links : (schema : Schema) (at : List ℕ) (lids : Lids) (there : Key → Bool) (kind kind' : ℕ) (given given' : List (ℕ × List Member)) (old old' : List Link) (result : Result (List Link) (Stop Refusal))
     → kind ≡ kind' → given ≡ given' → old ≡ old'
-    → Judges at (refuse_links there lids (relationships_of schema kind) given) (λ new. new ≡ set_links lids old given) result
-    → Judges at (refuse_links there lids (relationships_of schema kind') given') (λ new. new ≡ set_links lids old' given') result
+    → RefusesOr at (refuse_links there lids (relationships_of schema kind) given) (λ new. new ≡ set_links lids old given) result
+    → RefusesOr at (refuse_links there lids (relationships_of schema kind') given') (λ new. new ≡ set_links lids old' given') result
 judged_links schema at lids there kind kind' given given' old old' result same_kind same_given same_old told =
-    subst (λ (o : List Link). Judges at (refuse_links there lids (relationships_of schema kind') given') (λ new. new ≡ set_links lids o given') result) same_old
-    (subst (λ (g : List (ℕ × List Member)). Judges at (refuse_links there lids (relationships_of schema kind') g) (λ new. new ≡ set_links lids old g) result) same_given
-    (subst (λ (k : ℕ). Judges at (refuse_links there lids (relationships_of schema k) given) (λ new. new ≡ set_links lids old given) result) same_kind told))
+    subst (λ (o : List Link). RefusesOr at (refuse_links there lids (relationships_of schema kind') given') (λ new. new ≡ set_links lids o given') result) same_old
+    (subst (λ (g : List (ℕ × List Member)). RefusesOr at (refuse_links there lids (relationships_of schema kind') g) (λ new. new ≡ set_links lids old g) result) same_given
+    (subst (λ (k : ℕ). RefusesOr at (refuse_links there lids (relationships_of schema k) given) (λ new. new ≡ set_links lids old given) result) same_kind told))
 
 -- as many as before
 pub set_links_length : (lids : Lids) (old : List Link) (links : List (ℕ × List Member)) → length (set_links lids old links) ≡ length old

@@ -1,54 +1,13 @@
--- What one step of an operation says: of what it reads and writes, and of every world that may stand behind the view.
-use Rattle.std.specs.Prelude.{◌≡◌, ◌||◌, ℕ, ⊤, true, Bool, IsTrue, IsFalse, List, Option, Some, None, Result, Ok, Err}
+-- Where a link may lead.
+use Rattle.std.specs.Prelude.{◌||◌, true, Bool}
 use Rattle.ident_rules.specs.declared.key.Key.{Key}
 use Rattle.ident_rules.specs.Key.{same_key}
-use Rattle.resource_schema.specs.declared.schema.Schema.{Schema}
-use Rattle.world_cells.specs.declared.keys.CellKey.{CellKey}
-use Rattle.world_cells.specs.declared.sets.Written.{Written}
-use Rattle.world_cells.specs.World.{World, cell_at, has_row}
-use Rattle.world_cells.specs.Reads.{Cells, covers, Leads}
-use Rattle.error_objects.specs.declared.refusals.Refusal.{Refusal}
-use Rattle.store_model.specs.Valid.{IsValid}
-use Rattle.store_model.specs.Run.{refusal_under}
-use Rattle.view_reads.specs.Recording.{Recording, Follows}
-use Rattle.row_change.specs.Trial.{StandsBehind}
-use Rattle.ident_rules.specs.declared.stops.Stop.{Stop}
-use Rattle.ident_rules.specs.declared.stops.Stop.TheVariants.{Because, NoMemory}
+use Rattle.world_cells.specs.World.{World, has_row}
 use Rattle.row_change.specs.declared.places.There.{There}
 use Rattle.row_change.specs.declared.places.There.TheVariants as there
-
--- ---- steps that read
-
--- The store and the writes stay, what was read stays read, and each key that is read by the step passes the test.
-pub record LooksAt {V : Type 0} (test : CellKey → Bool) (before after : Recording V) : Type 0 where
-  pub follows : Follows before after
-  pub writes : after.writes ≡ before.writes
-  pub within : (k : CellKey) → IsTrue (covers after.reads k) → IsFalse (covers before.reads k) → IsTrue (test k)
-
--- It is so of every world now that may stand behind the view under the earlier writes.
-abbrev pub Sees : {V : Type 0} → Schema → (V → Cells) → Recording V → Recording V → (World → Type 0) → Type 0
-Sees schema cells before after P =
-    (w now : World) → StandsBehind schema (cells before.store) after.reads w now → Leads (cell_at schema w) before.writes (cell_at schema now) → P now
-
--- The refusal that is told, seen from the request, or a value of which P holds where there is none.
-abbrev pub Judges : {T : Type 0} → List ℕ → Option Refusal → (T → Type 0) → Result T (Stop Refusal) → Type 0
-Judges at expected P (Ok x) = (expected ≡ None) × P x
-Judges at expected P (Err (Because r)) = (e : Refusal) × (expected ≡ Some e) × (r ≡ refusal_under at e)
-Judges at expected P (Err NoMemory) = ⊤
 
 -- the keys to which a link may lead
 abbrev pub is_there : There → World → Key → Bool
 is_there there.Anywhere w k = true
 is_there there.AtRow w k = has_row w k
 is_there (there.AtRowOr key) w k = same_key key k || has_row w k
-
--- ---- steps that write
-
--- The store and the reads stay, and writes that lead to a world that is told lead to another one.
-pub record LeavesReads {V : Type 0} (before after : Recording V) : Type 0 where
-  pub store : after.store ≡ before.store
-  pub reads : after.reads ≡ before.reads
-
--- writes that lead to a valid world, of which P holds, lead after the step to the world that is told
-abbrev pub LeadsOn : Schema → (World → Type 0) → (World → World) → List Written → List Written → Type 0
-LeadsOn schema P next before after = (w now : World) → IsValid schema now → P now → Leads (cell_at schema w) before (cell_at schema now) → Leads (cell_at schema w) after (cell_at schema (next now))

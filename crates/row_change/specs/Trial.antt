@@ -15,14 +15,9 @@ use Rattle.store_model.specs.Change.{Lids, Changed, apply}
 use Rattle.store_model.specs.Run.{refusal_under}
 use Rattle.store_model.specs.Reach.{reach_operation}
 use Rattle.view_reads.specs.Recording.{Recording}
+use Rattle.trial_steps.specs.Steps.{StandsBehind, StaysIn}
 use Rattle.ident_rules.specs.declared.stops.Stop.{Stop}
 use Rattle.ident_rules.specs.declared.stops.Stop.TheVariants.{Because, NoMemory}
-
--- A world may stand behind the view: it is valid and agrees with it on the reads. Under the earlier writes it is another valid world, now.
-pub record StandsBehind (schema : Schema) (store : Cells) (reads : ReadSet) (w now : World) : Type 0 where
-  pub valid : IsValid schema w
-  pub agrees : AgreeOn reads (cell_at schema w) store
-  pub now_valid : IsValid schema now
 
 -- The outcome of an operation at its pointer is the definition's, and after it the writes lead to the definition's world.
 abbrev pub IsOutcome : {V : Type 0} → Schema → List ℕ → Result Changed Refusal → Read (Option Key) → Lids → World → Recording V → Type 0
@@ -39,10 +34,8 @@ TellsChange schema cells at operation old_lids new_lids before after result =
     → IsOutcome schema at (apply schema now operation old_lids) result new_lids w after
 
 -- Each key that the operation read lies in its reach, in every world with the view's cells, as the earlier writes changed it.
-abbrev pub StaysInReach : {V : Type 0} → Schema → (V → Cells) → Operation → Lids → Recording V → Recording V → Type 0
-StaysInReach schema cells operation lids before after =
-    (w now : World) → IsValid schema w → ((k : CellKey) → cell_at schema w k ≡ cells before.store k) → IsValid schema now → Leads (cell_at schema w) before.writes (cell_at schema now)
-    → (k : CellKey) → IsTrue (covers after.reads k) → IsFalse (covers before.reads k) → IsTrue (reach_operation now lids operation k)
+abbrev pub ReadsInReach : {V : Type 0} → Schema → (V → Cells) → Operation → Lids → Recording V → Recording V → Type 0
+ReadsInReach schema cells operation lids before after = StaysIn schema cells before after (λ now. reach_operation now lids operation)
 
 -- what a step that may stop answers
 abbrev pub read_of : {T : Type 0} → Result T (Stop Refusal) → Read T

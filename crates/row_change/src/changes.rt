@@ -1,6 +1,6 @@
 ghost use Rattle.std.specs.Prelude.{◌≡◌};
 ghost use Rattle.view_reads.specs.Recording.{Follows};
-ghost use Rattle.row_change.specs.Trial.{TellsChange, StaysInReach, read_of};
+ghost use Rattle.row_change.specs.Trial.{TellsChange, read_of, ReadsInReach};
 
 use crate::creates::create;
 use crate::members::{add_members, drop_members, set_members};
@@ -40,7 +40,7 @@ fn try_change<V: View>(
 ) -> Result<Option<Key>, Stop<Refusal>>
     ensures reads { Follows recorder.old recorder.new }
     ensures outcome { TellsChange schema.now V.cells at.now operation.now lids.old lids.new recorder.old recorder.new (read_of result) }
-    ensures reach { StaysInReach schema.now V.cells operation.now lids.old recorder.old recorder.new }
+    ensures reach { ReadsInReach schema.now V.cells operation.now lids.old recorder.old recorder.new }
 {
     match operation {
         Operation::Create {
@@ -84,7 +84,7 @@ pub fn change<V: View>(
 ) -> Read<Option<Key>>
     ensures reads { Follows recorder.old recorder.new }
     ensures outcome { TellsChange schema.now V.cells at.now operation.now lids.old lids.new recorder.old recorder.new result }
-    ensures reach { StaysInReach schema.now V.cells operation.now lids.old recorder.old recorder.new }
+    ensures reach { ReadsInReach schema.now V.cells operation.now lids.old recorder.old recorder.new }
 {
     read_of(try_change(alloc, schema, operation, at, lids, recorder, work))
 }

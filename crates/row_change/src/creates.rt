@@ -9,11 +9,12 @@ ghost use Rattle.store_model.specs.Change.{is_bound, bind, empty_links, set_link
 ghost use Rattle.store_model.specs.Run.{refusal_under};
 ghost use Rattle.store_model.specs.Reach.{is_row_in, linked_keys};
 ghost use Rattle.view_reads.specs.Recording.{Follows};
-ghost use Rattle.row_change.specs.Trial.{TellsChange, StaysInReach, read_of};
-ghost use Rattle.row_change.specs.Steps.{LooksAt, Sees, Judges, LeavesReads, LeadsOn, is_there};
+ghost use Rattle.row_change.specs.Trial.{TellsChange, read_of, ReadsInReach};
+ghost use Rattle.trial_steps.specs.Steps.{LooksAt, Sees, RefusesOr, LeavesReads, LeadsOn};
+ghost use Rattle.row_change.specs.Steps.{is_there};
 ghost use Rattle.row_change.specs.Creating.{refuse_id, is_looked_for, IsNewId, with_counter};
 
-use crate::finds::{has_row, next_number, under};
+use crate::finds::under;
 use crate::linkages::read_links;
 use crate::places::There;
 use crate::writes::put_row;
@@ -24,6 +25,7 @@ use outer_ends::Work;
 use resource_schema::{AttrValue, Schema, copy_values};
 use std::alloc::Global;
 use task_forms::Member;
+use trial_steps::{has_row, next_number};
 use view_reads::{Recorder, View};
 use world_cells::{Cell, CellKey, Link, Row};
 
@@ -46,7 +48,7 @@ pub fn create<V: View>(
 ) -> Result<Option<Key>, Stop<Refusal>>
     ensures reads { Follows recorder.old recorder.new }
     ensures outcome { TellsChange schema.now V.cells at.now (operation.Create kind id lid.now values.now links.now) lids.old lids.new recorder.old recorder.new (read_of result) }
-    ensures reach { StaysInReach schema.now V.cells (operation.Create kind id lid.now values.now links.now) lids.old recorder.old recorder.new }
+    ensures reach { ReadsInReach schema.now V.cells (operation.Create kind id lid.now values.now links.now) lids.old recorder.old recorder.new }
 {
     if is_bound(lids, kind, lid) {
         let refusal = refuse_create(alloc, at, Code::LidBound, "/data/lid")?;
@@ -97,7 +99,7 @@ fn new_id<V: View>(
     work: &mut Work,
 ) -> Result<(Id, Option<u64>), Stop<Refusal>>
     ensures looks { LooksAt (is_looked_for kind id) recorder.old recorder.new }
-    ensures sees { (schema : Types) → Sees schema V.cells recorder.old recorder.new (λ now. Judges at.now (refuse_id now kind id) (IsNewId now kind id) result) }
+    ensures sees { (schema : Types) → Sees schema V.cells recorder.old recorder.new (λ now. RefusesOr at.now (refuse_id now kind id) (IsNewId now kind id) result) }
 {
     match id {
         Some(id) => client_id(alloc, kind, id, at, recorder, work),
@@ -115,7 +117,7 @@ fn client_id<V: View>(
     work: &mut Work,
 ) -> Result<(Id, Option<u64>), Stop<Refusal>>
     ensures looks { LooksAt (is_looked_for kind (Some id)) recorder.old recorder.new }
-    ensures sees { (schema : Types) → Sees schema V.cells recorder.old recorder.new (λ now. Judges at.now (refuse_id now kind (Some id)) (IsNewId now kind (Some id)) result) }
+    ensures sees { (schema : Types) → Sees schema V.cells recorder.old recorder.new (λ now. RefusesOr at.now (refuse_id now kind (Some id)) (IsNewId now kind (Some id)) result) }
 {
     if has_row(&Key { kind, id }, recorder, work)? {
         let refusal = refuse_create(alloc, at, Code::IdExists, "/data/id")?;
@@ -135,7 +137,7 @@ fn server_id<V: View>(
     work: &mut Work,
 ) -> Result<(Id, Option<u64>), Stop<Refusal>>
     ensures looks { LooksAt (is_looked_for kind None) recorder.old recorder.new }
-    ensures sees { (schema : Types) (at : List ℕ) → Sees schema V.cells recorder.old recorder.new (λ now. Judges at (refuse_id now kind None) (IsNewId now kind None) result) }
+    ensures sees { (schema : Types) (at : List ℕ) → Sees schema V.cells recorder.old recorder.new (λ now. RefusesOr at (refuse_id now kind None) (IsNewId now kind None) result) }
 {
     let number = next_number(kind, recorder, work)?;
     if number >= LAST_NEXT {
@@ -197,7 +199,7 @@ fn new_row<V: View>(
     work: &mut Work,
 ) -> Result<Row, Stop<Refusal>>
     ensures looks { LooksAt (is_row_in (linked_keys lids.now links.now)) recorder.old recorder.new }
-    ensures sees { Sees schema.now V.cells recorder.old recorder.new (λ now. Judges at.now (refuse_links (is_there (There.AtRowOr key.now) now) lids.now (relationships_of schema.now key.now.kind) links.now) (λ row. row ≡ record { key = key.now; values = values.now; links = set_links lids.now (empty_links (relationships_of schema.now key.now.kind)) links.now }) result) }
+    ensures sees { Sees schema.now V.cells recorder.old recorder.new (λ now. RefusesOr at.now (refuse_links (is_there (There.AtRowOr key.now) now) lids.now (relationships_of schema.now key.now.kind) links.now) (λ row. row ≡ record { key = key.now; values = values.now; links = set_links lids.now (empty_links (relationships_of schema.now key.now.kind)) links.now }) result) }
 {
     let kind = key.kind;
     let values = copy_values(alloc, values.as_slice())?;

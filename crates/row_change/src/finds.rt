@@ -1,12 +1,9 @@
-ghost use Rattle.std.specs.Prelude.{◌≡◌, [], ◌∷◌, ◌++◌, IfOk, Some};
+ghost use Rattle.std.specs.Prelude.{◌≡◌, ◌++◌, IfOk, Some};
 ghost use Rattle.resource_schema.specs.declared.schema.Schema.{Schema};
-ghost use Rattle.world_cells.specs.World.{row_at, has_row, next_id};
 ghost use Rattle.store_model.specs.Change.{key_of, refuse_target, named_row, at_target};
 ghost use Rattle.store_model.specs.Run.{refusal_under};
-ghost use Rattle.store_model.specs.Reach.{is_row_in, is_counter_of, target_keys};
-ghost use Rattle.std.specs.Option.{option_copied};
-ghost use Rattle.row_change.specs.Found.{row_of, number_of};
-ghost use Rattle.row_change.specs.Steps.{LooksAt, Sees, Judges};
+ghost use Rattle.store_model.specs.Reach.{is_row_in, target_keys};
+ghost use Rattle.trial_steps.specs.Steps.{LooksAt, Sees, RefusesOr};
 
 use error_objects::{Blame, Code, Refusal};
 use ident_rules::{Key, NoMemory, Stop, Text};
@@ -14,68 +11,9 @@ use local_ids::LocalIds;
 use outer_ends::Work;
 use std::alloc::Global;
 use task_forms::{Named, Where, Who};
+use trial_steps::find_row;
 use view_reads::{Recorder, View};
-use world_cells::{Cell, CellKey, Row};
-
-/// A copy of the row at a key, if there is one.
-pub fn find_row<V: View>(
-    alloc: Global,
-    key: &Key,
-    recorder: &mut Recorder<V>,
-    work: &mut Work,
-) -> Result<Option<Row>, NoMemory>
-    ensures looks { LooksAt (is_row_in (key.now ∷ [])) recorder.old recorder.new }
-    ensures sees { (schema : Schema) → Sees schema V.cells recorder.old recorder.new (λ now. IfOk result (λ row. row ≡ row_at now key.now)) }
-{
-    let found = recorder.get(&CellKey::Row(*key), work)?;
-    copied_row(alloc, found)
-}
-
-/// A copy of the row in a cell, if it has one.
-fn copied_row(alloc: Global, found: Option<&Cell>) -> Result<Option<Row>, NoMemory>
-    ensures { IfOk result (λ row. row ≡ row_of (option_copied found.entry)) }
-{
-    match found {
-        Some(Cell::Row(row)) => Ok(Some(row.copy(alloc)?)),
-        _ => Ok(None),
-    }
-}
-
-/// Whether there is a row at a key.
-pub fn has_row<V: View>(
-    key: &Key,
-    recorder: &mut Recorder<V>,
-    work: &mut Work,
-) -> Result<bool, NoMemory>
-    ensures looks { LooksAt (is_row_in (key.now ∷ [])) recorder.old recorder.new }
-    ensures sees { (schema : Schema) → Sees schema V.cells recorder.old recorder.new (λ now. IfOk result (λ b. b ≡ has_row now key.now)) }
-{
-    let found = recorder.get(&CellKey::Row(*key), work)?;
-    Ok(found.is_some())
-}
-
-/// The next id of a type.
-pub fn next_number<V: View>(
-    kind: u32,
-    recorder: &mut Recorder<V>,
-    work: &mut Work,
-) -> Result<u64, NoMemory>
-    ensures looks { LooksAt (is_counter_of kind) recorder.old recorder.new }
-    ensures sees { (schema : Schema) → Sees schema V.cells recorder.old recorder.new (λ now. IfOk result (λ n. n ≡ next_id now kind)) }
-{
-    let found = recorder.get(&CellKey::Counter(kind), work)?;
-    Ok(number_in(found))
-}
-
-/// The next id in a counter's cell: 1 where there is none.
-fn number_in(found: Option<&Cell>) -> u64
-    ensures { result ≡ number_of (option_copied found.entry) }
-{
-    match found {
-        Some(Cell::Counter(number)) => *number,
-        _ => 1,
-    }
-}
+use world_cells::Row;
 
 /// The key that a name stands for, if it is bound.
 pub fn key_of(lids: &LocalIds, named: &Named) -> Option<Key>
@@ -100,7 +38,7 @@ pub fn find_target<V: View>(
     work: &mut Work,
 ) -> Result<Row, Stop<Refusal>>
     ensures looks { LooksAt (is_row_in (target_keys lids.now who.now)) recorder.old recorder.new }
-    ensures sees { (schema : Schema) → Sees schema V.cells recorder.old recorder.new (λ now. Judges at.now (refuse_target now lids.now who.now) (λ row. named_row now lids.now who.now ≡ Some row) result) }
+    ensures sees { (schema : Schema) → Sees schema V.cells recorder.old recorder.new (λ now. RefusesOr at.now (refuse_target now lids.now who.now) (λ row. named_row now lids.now who.now ≡ Some row) result) }
 {
     let Some(key) = key_of(lids, &who.named) else {
         let refusal = refuse_at(alloc, at, Code::UnknownLid, who, "/lid")?;

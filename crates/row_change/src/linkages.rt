@@ -8,9 +8,10 @@ ghost use Rattle.store_model.specs.Valid.{same_id};
 ghost use Rattle.error_objects.specs.Refusals.{at_pointer};
 ghost use Rattle.world_cells.specs.World.{no_link};
 ghost use Rattle.store_model.specs.Reach.{is_row_in, member_keys, linked_keys};
-ghost use Rattle.row_change.specs.Steps.{LooksAt, Sees, Judges, is_there};
+ghost use Rattle.trial_steps.specs.Steps.{LooksAt, Sees, RefusesOr};
+ghost use Rattle.row_change.specs.Steps.{is_there};
 
-use crate::finds::{has_row, key_of, under};
+use crate::finds::{key_of, under};
 use crate::places::There;
 use error_objects::{Blame, Code, Refusal};
 use ident_rules::{Id, Key, List, NoMemory, Stop, Text};
@@ -20,6 +21,7 @@ use resource_schema::{Relationship, Schema};
 use std::alloc::Global;
 use std::cmp::Ordering;
 use task_forms::{Member, Named};
+use trial_steps::has_row;
 use view_reads::{Recorder, View};
 use world_cells::Link;
 
@@ -36,7 +38,7 @@ pub fn read_members<V: View>(
     work: &mut Work,
 ) -> Result<List<Id>, Stop<Refusal>>
     ensures looks { LooksAt (is_row_in (member_keys lids.now members.now)) recorder.old recorder.new }
-    ensures sees { (schema : Types) → Sees schema V.cells recorder.old recorder.new (λ now. Judges at.now (first_of (map (refuse_member (is_there there now) lids.now linkage.now) members.now)) (λ ids. ids ≡ member_ids lids.now members.now) result) }
+    ensures sees { (schema : Types) → Sees schema V.cells recorder.old recorder.new (λ now. RefusesOr at.now (first_of (map (refuse_member (is_there there now) lids.now linkage.now) members.now)) (λ ids. ids ≡ member_ids lids.now members.now) result) }
     ensures unread { there ≡ There.Anywhere → recorder.new.reads ≡ recorder.old.reads }
 {
     each_member(alloc, at, linkage, &there, lids, members, recorder, work)
@@ -55,7 +57,7 @@ fn each_member<V: View>(
 ) -> Result<List<Id>, Stop<Refusal>>
     ensures looks { LooksAt (is_row_in (member_keys lids.now members.now)) recorder.old recorder.new }
     ensures ids { IfOk result (λ ids. ids ≡ member_ids lids.now members.now) }
-    ensures sees { (schema : Types) → Sees schema V.cells recorder.old recorder.new (λ now. Judges at.now (first_of (map (refuse_member (is_there there.now now) lids.now linkage.now) members.now)) (λ ids. ids ≡ member_ids lids.now members.now) result) }
+    ensures sees { (schema : Types) → Sees schema V.cells recorder.old recorder.new (λ now. RefusesOr at.now (first_of (map (refuse_member (is_there there.now now) lids.now linkage.now) members.now)) (λ ids. ids ≡ member_ids lids.now members.now) result) }
     ensures unread { there.now ≡ There.Anywhere → recorder.new.reads ≡ recorder.old.reads }
 {
     let mut ids = Vec::new(alloc);
@@ -87,7 +89,7 @@ fn read_member<V: View>(
 ) -> Result<Id, Stop<Refusal>>
     ensures looks { LooksAt (is_row_in (member_keys lids.now (member.now ∷ []))) recorder.old recorder.new }
     ensures id { IfOk result (λ id. member_ids lids.now (member.now ∷ []) ≡ id ∷ []) }
-    ensures sees { (schema : Types) → Sees schema V.cells recorder.old recorder.new (λ now. Judges at.now (refuse_member (is_there there.now now) lids.now linkage.now member.now) (λ id. ⊤) result) }
+    ensures sees { (schema : Types) → Sees schema V.cells recorder.old recorder.new (λ now. RefusesOr at.now (refuse_member (is_there there.now now) lids.now linkage.now member.now) (λ id. ⊤) result) }
     ensures unread { there.now ≡ There.Anywhere → recorder.new.reads ≡ recorder.old.reads }
 {
     let Some(key) = key_of(lids, &member.named) else {
@@ -180,7 +182,7 @@ pub fn join_members<V: View>(
     work: &mut Work,
 ) -> Result<List<Id>, Stop<Refusal>>
     ensures looks { LooksAt (is_row_in (member_keys lids.now members.now)) recorder.old recorder.new }
-    ensures sees { (schema : Types) → Sees schema V.cells recorder.old recorder.new (λ now. Judges at.now (refuse_linkage (is_there there now) lids.now linkage.now old.now members.now) (λ ids. ids ≡ append_new old.now (member_ids lids.now members.now)) result) }
+    ensures sees { (schema : Types) → Sees schema V.cells recorder.old recorder.new (λ now. RefusesOr at.now (refuse_linkage (is_there there now) lids.now linkage.now old.now members.now) (λ ids. ids ≡ append_new old.now (member_ids lids.now members.now)) result) }
 {
     joined_members(
         alloc, at, linkage, &there, lids, old, members, recorder, work,
@@ -201,7 +203,7 @@ fn joined_members<V: View>(
 ) -> Result<List<Id>, Stop<Refusal>>
     ensures looks { LooksAt (is_row_in (member_keys lids.now members.now)) recorder.old recorder.new }
     ensures ids { IfOk result (λ ids. ids ≡ append_new old.now (member_ids lids.now members.now)) }
-    ensures sees { (schema : Types) → Sees schema V.cells recorder.old recorder.new (λ now. Judges at.now (refuse_linkage (is_there there.now now) lids.now linkage.now old.now members.now) (λ ids. ids ≡ append_new old.now (member_ids lids.now members.now)) result) }
+    ensures sees { (schema : Types) → Sees schema V.cells recorder.old recorder.new (λ now. RefusesOr at.now (refuse_linkage (is_there there.now now) lids.now linkage.now old.now members.now) (λ ids. ids ≡ append_new old.now (member_ids lids.now members.now)) result) }
 {
     let ids = each_member(alloc, at, linkage, there, lids, members, recorder, work)?;
     let joined = append_new(alloc, old, ids.as_slice())?;
@@ -276,7 +278,7 @@ pub fn read_links<V: View>(
     work: &mut Work,
 ) -> Result<List<Link>, Stop<Refusal>>
     ensures looks { LooksAt (is_row_in (linked_keys lids.now links.now)) recorder.old recorder.new }
-    ensures sees { Sees schema.now V.cells recorder.old recorder.new (λ now. Judges at.now (refuse_links (is_there there now) lids.now (relationships_of schema.now kind) links.now) (λ new. new ≡ set_links lids.now old links.now) result) }
+    ensures sees { Sees schema.now V.cells recorder.old recorder.new (λ now. RefusesOr at.now (refuse_links (is_there there now) lids.now (relationships_of schema.now kind) links.now) (λ new. new ≡ set_links lids.now old links.now) result) }
 {
     let relationships = schema.relationships_of(kind);
     let mut new = old.into_vec();

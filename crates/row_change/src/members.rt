@@ -7,8 +7,8 @@ ghost use Rattle.store_model.specs.Valid.{same_id};
 ghost use Rattle.store_model.specs.Change.{refused, append_new, member_ids, link_of, on_link};
 ghost use Rattle.store_model.specs.Reach.{is_row_in, target_keys, member_keys};
 ghost use Rattle.view_reads.specs.Recording.{Follows};
-ghost use Rattle.row_change.specs.Trial.{TellsChange, StaysInReach, read_of};
-ghost use Rattle.row_change.specs.Steps.{LooksAt, Sees, Judges};
+ghost use Rattle.row_change.specs.Trial.{TellsChange, read_of, ReadsInReach};
+ghost use Rattle.trial_steps.specs.Steps.{LooksAt, Sees, RefusesOr};
 ghost use Rattle.row_change.specs.Rewrites.{IsRewrite};
 
 use crate::finds::find_target;
@@ -41,7 +41,7 @@ pub fn set_members<V: View>(
 ) -> Result<Option<Key>, Stop<Refusal>>
     ensures reads { Follows recorder.old recorder.new }
     ensures outcome { TellsChange schema.now V.cells at.now (operation.SetLinks who.now rel members.now) lids.now lids.now recorder.old recorder.new (read_of result) }
-    ensures reach { StaysInReach schema.now V.cells (operation.SetLinks who.now rel members.now) lids.now recorder.old recorder.new }
+    ensures reach { ReadsInReach schema.now V.cells (operation.SetLinks who.now rel members.now) lids.now recorder.old recorder.new }
 {
     let rewrite = set_row(alloc, who, rel, members, at, lids, recorder, work)?;
     let Rewrite { old, new } = rewrite;
@@ -61,7 +61,7 @@ fn set_row<V: View>(
     work: &mut Work,
 ) -> Result<Rewrite, Stop<Refusal>>
     ensures looks { LooksAt (is_row_in (target_keys lids.now who.now ++ member_keys lids.now members.now)) recorder.old recorder.new }
-    ensures sees { (schema : Types) → Sees schema V.cells recorder.old recorder.new (λ now. Judges at.now (refused schema now lids.now (operation.SetLinks who.now rel members.now)) (λ made. IsRewrite now lids.now who.now (on_link rel (λ old. append_new [] (member_ids lids.now members.now))) made.old made.new) result) }
+    ensures sees { (schema : Types) → Sees schema V.cells recorder.old recorder.new (λ now. RefusesOr at.now (refused schema now lids.now (operation.SetLinks who.now rel members.now)) (λ made. IsRewrite now lids.now who.now (on_link rel (λ old. append_new [] (member_ids lids.now members.now))) made.old made.new) result) }
 {
     let old = find_target(alloc, at, who, lids, recorder, work)?;
     let ids = join_members(
@@ -93,7 +93,7 @@ pub fn add_members<V: View>(
 ) -> Result<Option<Key>, Stop<Refusal>>
     ensures reads { Follows recorder.old recorder.new }
     ensures outcome { TellsChange schema.now V.cells at.now (operation.AddLinks who.now rel members.now) lids.now lids.now recorder.old recorder.new (read_of result) }
-    ensures reach { StaysInReach schema.now V.cells (operation.AddLinks who.now rel members.now) lids.now recorder.old recorder.new }
+    ensures reach { ReadsInReach schema.now V.cells (operation.AddLinks who.now rel members.now) lids.now recorder.old recorder.new }
 {
     let rewrite = grown_row(alloc, who, rel, members, at, lids, recorder, work)?;
     let Rewrite { old, new } = rewrite;
@@ -113,7 +113,7 @@ fn grown_row<V: View>(
     work: &mut Work,
 ) -> Result<Rewrite, Stop<Refusal>>
     ensures looks { LooksAt (is_row_in (target_keys lids.now who.now ++ member_keys lids.now members.now)) recorder.old recorder.new }
-    ensures sees { (schema : Types) → Sees schema V.cells recorder.old recorder.new (λ now. Judges at.now (refused schema now lids.now (operation.AddLinks who.now rel members.now)) (λ made. IsRewrite now lids.now who.now (on_link rel (λ old. append_new old (member_ids lids.now members.now))) made.old made.new) result) }
+    ensures sees { (schema : Types) → Sees schema V.cells recorder.old recorder.new (λ now. RefusesOr at.now (refused schema now lids.now (operation.AddLinks who.now rel members.now)) (λ made. IsRewrite now lids.now who.now (on_link rel (λ old. append_new old (member_ids lids.now members.now))) made.old made.new) result) }
 {
     let old = find_target(alloc, at, who, lids, recorder, work)?;
     let linked = linked_ids(&old, rel);
@@ -146,7 +146,7 @@ pub fn drop_members<V: View>(
 ) -> Result<Option<Key>, Stop<Refusal>>
     ensures reads { Follows recorder.old recorder.new }
     ensures outcome { TellsChange schema.now V.cells at.now (operation.DropLinks who.now rel members.now) lids.now lids.now recorder.old recorder.new (read_of result) }
-    ensures reach { StaysInReach schema.now V.cells (operation.DropLinks who.now rel members.now) lids.now recorder.old recorder.new }
+    ensures reach { ReadsInReach schema.now V.cells (operation.DropLinks who.now rel members.now) lids.now recorder.old recorder.new }
 {
     let rewrite = thinned_row(alloc, who, rel, members, at, lids, recorder, work)?;
     let Rewrite { old, new } = rewrite;
@@ -166,7 +166,7 @@ fn thinned_row<V: View>(
     work: &mut Work,
 ) -> Result<Rewrite, Stop<Refusal>>
     ensures looks { LooksAt (is_row_in (target_keys lids.now who.now)) recorder.old recorder.new }
-    ensures sees { (schema : Types) → Sees schema V.cells recorder.old recorder.new (λ now. Judges at.now (refused schema now lids.now (operation.DropLinks who.now rel members.now)) (λ made. IsRewrite now lids.now who.now (on_link rel (filter (λ x. not (list_any (same_id x) (member_ids lids.now members.now))))) made.old made.new) result) }
+    ensures sees { (schema : Types) → Sees schema V.cells recorder.old recorder.new (λ now. RefusesOr at.now (refused schema now lids.now (operation.DropLinks who.now rel members.now)) (λ made. IsRewrite now lids.now who.now (on_link rel (filter (λ x. not (list_any (same_id x) (member_ids lids.now members.now))))) made.old made.new) result) }
 {
     let old = find_target(alloc, at, who, lids, recorder, work)?;
     let dropped = read_members(

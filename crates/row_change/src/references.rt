@@ -5,7 +5,7 @@ ghost use Rattle.world_cells.specs.World.{cell_at};
 ghost use Rattle.view_reads.specs.Recording.{pair_now};
 ghost use Rattle.store_model.specs.Change.{is_referenced};
 ghost use Rattle.store_model.specs.Reach.{is_back_to};
-ghost use Rattle.row_change.specs.Steps.{LooksAt, Sees};
+ghost use Rattle.trial_steps.specs.Steps.{LooksAt, Sees};
 ghost use Rattle.row_change.specs.WaysBack.{link_found, FitsLink, IsFirstLink};
 
 use ident_rules::{Key, NoMemory};

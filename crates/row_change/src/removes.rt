@@ -1,6 +1,6 @@
 ghost use Rattle.task_forms.specs.declared.operations.Operation.TheVariants as operation;
 ghost use Rattle.view_reads.specs.Recording.{Follows};
-ghost use Rattle.row_change.specs.Trial.{TellsChange, StaysInReach, read_of};
+ghost use Rattle.row_change.specs.Trial.{TellsChange, read_of, ReadsInReach};
 
 use crate::finds::{find_target, refuse_at};
 use crate::references::is_referenced;
@@ -26,7 +26,7 @@ pub fn remove<V: View>(
 ) -> Result<Option<Key>, Stop<Refusal>>
     ensures reads { Follows recorder.old recorder.new }
     ensures outcome { TellsChange schema.now V.cells at.now (operation.Remove who.now) lids.now lids.now recorder.old recorder.new (read_of result) }
-    ensures reach { StaysInReach schema.now V.cells (operation.Remove who.now) lids.now recorder.old recorder.new }
+    ensures reach { ReadsInReach schema.now V.cells (operation.Remove who.now) lids.now recorder.old recorder.new }
 {
     let row = find_target(alloc, at, who, lids, recorder, work)?;
     if is_referenced(&row.key, recorder, work)? {

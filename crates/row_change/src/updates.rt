@@ -6,8 +6,8 @@ ghost use Rattle.world_cells.specs.World.{has_row};
 ghost use Rattle.store_model.specs.Change.{refused, refuse_links, set_values, set_links};
 ghost use Rattle.store_model.specs.Reach.{is_row_in, target_keys, linked_keys};
 ghost use Rattle.view_reads.specs.Recording.{Follows};
-ghost use Rattle.row_change.specs.Trial.{TellsChange, StaysInReach, read_of};
-ghost use Rattle.row_change.specs.Steps.{LooksAt, Sees, Judges};
+ghost use Rattle.row_change.specs.Trial.{TellsChange, read_of, ReadsInReach};
+ghost use Rattle.trial_steps.specs.Steps.{LooksAt, Sees, RefusesOr};
 ghost use Rattle.row_change.specs.Rewrites.{IsRewrite};
 
 use crate::finds::find_target;
@@ -47,7 +47,7 @@ pub fn update<V: View>(
 ) -> Result<Option<Key>, Stop<Refusal>>
     ensures reads { Follows recorder.old recorder.new }
     ensures outcome { TellsChange schema.now V.cells at.now (operation.Update who.now values.now links.now) lids.now lids.now recorder.old recorder.new (read_of result) }
-    ensures reach { StaysInReach schema.now V.cells (operation.Update who.now values.now links.now) lids.now recorder.old recorder.new }
+    ensures reach { ReadsInReach schema.now V.cells (operation.Update who.now values.now links.now) lids.now recorder.old recorder.new }
 {
     let rewrite = updated_row(alloc, schema, who, values, links, at, lids, recorder, work)?;
     let Rewrite { old, new } = rewrite;
@@ -69,7 +69,7 @@ fn updated_row<V: View>(
     work: &mut Work,
 ) -> Result<Rewrite, Stop<Refusal>>
     ensures looks { LooksAt (is_row_in (target_keys lids.now who.now ++ linked_keys lids.now links.now)) recorder.old recorder.new }
-    ensures sees { Sees schema.now V.cells recorder.old recorder.new (λ now. Judges at.now (refused schema.now now lids.now (operation.Update who.now values.now links.now)) (λ made. IsRewrite now lids.now who.now (λ row. record row { values = set_values row.values values.now; links = set_links lids.now row.links links.now }) made.old made.new) result) }
+    ensures sees { Sees schema.now V.cells recorder.old recorder.new (λ now. RefusesOr at.now (refused schema.now now lids.now (operation.Update who.now values.now links.now)) (λ made. IsRewrite now lids.now who.now (λ row. record row { values = set_values row.values values.now; links = set_links lids.now row.links links.now }) made.old made.new) result) }
 {
     let old = find_target(alloc, at, who, lids, recorder, work)?;
     let links = new_links(alloc, schema, who, &old, links, at, lids, recorder, work)?;
@@ -90,7 +90,7 @@ fn new_links<V: View>(
     work: &mut Work,
 ) -> Result<List<Link>, Stop<Refusal>>
     ensures looks { LooksAt (is_row_in (linked_keys lids.now links.now)) recorder.old recorder.new }
-    ensures sees { Sees schema.now V.cells recorder.old recorder.new (λ now. Judges at.now (refuse_links (has_row now) lids.now (relationships_of schema.now (kind_of who.now.named)) links.now) (λ new. new ≡ set_links lids.now old.now.links links.now) result) }
+    ensures sees { Sees schema.now V.cells recorder.old recorder.new (λ now. RefusesOr at.now (refuse_links (has_row now) lids.now (relationships_of schema.now (kind_of who.now.named)) links.now) (λ new. new ≡ set_links lids.now old.now.links links.now) result) }
 {
     let copy = old.copy(alloc)?;
     let kind = who.named.kind();

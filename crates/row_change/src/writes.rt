@@ -3,7 +3,7 @@ ghost use Rattle.resource_schema.specs.Kinds.{relationships_of};
 ghost use Rattle.world_cells.specs.declared.cells.Cell.TheVariants as cell;
 ghost use Rattle.world_cells.specs.World.{row_at};
 ghost use Rattle.store_model.specs.Change.{with_row, without_row};
-ghost use Rattle.row_change.specs.Steps.{LeavesReads, LeadsOn};
+ghost use Rattle.trial_steps.specs.Steps.{LeavesReads, LeadsOn};
 ghost use Rattle.row_change.specs.WritesBacks.{WritesBacks, TurnsBacks, RewritesLinks, ids_at, back_from, links_of};
 
 use ident_rules::{Id, Key, NoMemory};

@@ -9,10 +9,11 @@ use Rattle.task_forms.specs.declared.operations.Operation.TheVariants as operati
 use Rattle.store_model.specs.Change.{is_bound, refuse_links, set_links, empty_links}
 use Rattle.store_model.specs.Reach.{is_row_in, linked_keys}
 use Rattle.row_change.specs.declared.places.There.TheVariants as there
-use Rattle.row_change.specs.Trial.{StandsBehind}
-use Rattle.row_change.specs.Steps.{Judges, is_there}
+use Rattle.trial_steps.specs.Steps.{StandsBehind}
+use Rattle.trial_steps.specs.Steps.{RefusesOr}
+use Rattle.row_change.specs.Steps.{is_there}
 use Rattle.row_change.specs.Creating.{refuse_id, is_looked_for, IsNewId}
-use Rattle.row_change.proofs.StepLaws.{sees_before, sees_after}
+use Rattle.trial_steps.specs.StepLaws.{sees_before, sees_after}
 use Rattle.row_change.proofs.CreateOutcomes.{told_stop, refused_id, by_links, told_created, reads_links}
 use Rattle.row_change.proofs.creates.create.Goals as goal
 
@@ -35,7 +36,7 @@ returns-in-Err-new_row-clause-outcome g c = λ w now behind leads.
     let id_seen = sees_before schema g.V.View.cells (is_row_in (linked_keys bound c.args.links.now)) c.args.recorder.now c.new_id.new.recorder c.new_row.new.recorder
     (λ now. (refuse_id now c.args.kind c.args.id ≡ None) × IsNewId now c.args.kind c.args.id c.in-Ok.made) c.new_row.ensures.looks (c.in-Ok.ensures.sees schema) w now behind leads in
     let links_seen = sees_after schema g.V.View.cells (is_looked_for c.args.kind c.args.id) c.args.recorder.now c.new_id.new.recorder c.new_row.new.recorder
-    (λ now. Judges {T = Row} c.args.at.now (refuse_links (is_there (there.AtRowOr (record { kind = c.args.kind; id = c.in-Ok.made.0 })) now) bound (relationships_of schema c.args.kind) c.args.links.now)
+    (λ now. RefusesOr {T = Row} c.args.at.now (refuse_links (is_there (there.AtRowOr (record { kind = c.args.kind; id = c.in-Ok.made.0 })) now) bound (relationships_of schema c.args.kind) c.args.links.now)
     (λ row. row ≡ record { key = record { kind = c.args.kind; id = c.in-Ok.made.0 }; values = c.args.values.now; links = set_links bound (empty_links (relationships_of schema c.args.kind)) c.args.links.now })
     (Err c.in-Err-new_row.stop)) c.new_id.ensures.looks c.in-Err-new_row.ensures.sees w now behind leads in
     told_stop {T = Row} schema c.args.at.now (operation.Create c.args.kind c.args.id c.args.lid.now c.args.values.now c.args.links.now) c.args.lids.now bound w now c.new_row.new.recorder

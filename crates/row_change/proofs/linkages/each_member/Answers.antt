@@ -4,10 +4,11 @@ use Rattle.std.proofs.lemmas.List.Elements.{filter_map-append}
 use Rattle.task_forms.specs.declared.operations.Member.{Member}
 use Rattle.store_model.specs.Change.{first_of, refuse_member, member_ids, key_of}
 use Rattle.store_model.specs.Reach.{is_row_in, member_keys}
-use Rattle.row_change.specs.Steps.{Judges, is_there}
+use Rattle.trial_steps.specs.Steps.{RefusesOr}
+use Rattle.row_change.specs.Steps.{is_there}
 use Rattle.error_objects.specs.declared.refusals.Refusal.{Refusal}
 use Rattle.row_change.proofs.Judging.{looks_here, looks_so_far, first_so_far, first_here, judges_passed, next_taken, all_taken}
-use Rattle.row_change.proofs.StepLaws.{sees_before, sees_after}
+use Rattle.trial_steps.specs.StepLaws.{sees_before, sees_after}
 use Rattle.row_change.proofs.linkages.each_member.Goals as goal
 
 pub returns-in_err-id-clause-looks : goal.returns-in_err-id-clause-looks
@@ -33,7 +34,7 @@ returns-in_err-id-clause-sees g c = λ schema w now behind leads.
     (λ now. first_of (map (refuse_member (is_there c.args.there.now now) c.args.lids.now c.args.linkage.now) (take c.loop-member.member-index c.args.members.now)) ≡ None)
     c.read_member.ensures.looks (c.loop-member.invariant.sees schema) w now behind leads) told)
     (sees_after schema g.V.View.cells (is_row_in (member_keys c.args.lids.now (take c.loop-member.member-index c.args.members.now))) c.args.recorder.now c.loop-member.recorder c.read_member.new.recorder
-    (λ now. Judges {T = List ℕ} c.args.at.now (refuse_member (is_there c.args.there.now now) c.args.lids.now c.args.linkage.now c.member-item.result) (λ id. ⊤) (Err c.in_err-id.field-0.0))
+    (λ now. RefusesOr {T = List ℕ} c.args.at.now (refuse_member (is_there c.args.there.now now) c.args.lids.now c.args.linkage.now c.member-item.result) (λ id. ⊤) (Err c.in_err-id.field-0.0))
     c.loop-member.invariant.looks (c.in_err-id.ensures.sees schema) w now behind leads)
 
 pub loop-member-preserved : goal.loop-member-preserved

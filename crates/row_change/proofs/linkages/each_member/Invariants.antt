@@ -4,7 +4,8 @@ use Rattle.resource_schema.specs.declared.schema.Schema.{Schema}
 use Rattle.store_model.specs.Change.{first_of, refuse_member, member_ids}
 use Rattle.store_model.specs.Reach.{is_row_in, member_keys}
 use Rattle.row_change.specs.declared.places.There.TheVariants as there
-use Rattle.row_change.specs.Steps.{LooksAt, Sees, is_there}
+use Rattle.trial_steps.specs.Steps.{LooksAt, Sees}
+use Rattle.row_change.specs.Steps.{is_there}
 use Rattle.row_change.proofs.linkages.each_member.Given as goal
 
 abbrev pub invariant-loop-member : goal.invariant-loop-member

@@ -8,8 +8,9 @@ use Rattle.error_objects.specs.declared.refusals.Refusal.{Refusal}
 use Rattle.resource_schema.specs.Kinds.{relationships_of}
 use Rattle.store_model.specs.Change.{first_of, refuse_linkage, linkage_pointer, append_new, member_ids, set_links}
 use Rattle.store_model.specs.Reach.{is_row_in, linked_keys}
-use Rattle.row_change.specs.Steps.{Judges, is_there}
-use Rattle.row_change.proofs.StepLaws.{sees_before, sees_after}
+use Rattle.trial_steps.specs.Steps.{RefusesOr}
+use Rattle.row_change.specs.Steps.{is_there}
+use Rattle.trial_steps.specs.StepLaws.{sees_before, sees_after}
 use Rattle.row_change.proofs.Judging.{looks_here, looks_begun, looks_so_far, first_so_far, first_here, judges_passed, all_taken}
 use Rattle.row_change.proofs.LinkSteps.{linked_keys_split, looks_one, refused_alike, set_next}
 use Rattle.row_change.proofs.linkages.read_links.Goals as goal
@@ -44,7 +45,7 @@ returns-in_err-ids-clause-sees g c = λ w now behind leads.
     (λ now. first_of (map (λ x. refuse_linkage (is_there c.args.there now) c.args.lids.now (linkage_pointer rels x.0) [] x.1) (take c.loop-rel.rel-index c.args.links.now)) ≡ None)
     looked c.loop-rel.invariant.sees w now behind leads) (sym alike ∙ told))
     (sees_after c.args.schema.now g.V.View.cells (is_row_in (linked_keys c.args.lids.now (take c.loop-rel.rel-index c.args.links.now))) c.args.recorder.now c.loop-rel.recorder c.joined_members.new.recorder
-    (λ now. Judges {T = List (List ℕ)} c.args.at.now (refuse_linkage (is_there c.args.there now) c.args.lids.now c.as_str.result.now [] c.as_slice-members.result.now) (λ ids. ids ≡ append_new [] (member_ids c.args.lids.now c.as_slice-members.result.now)) (Err c.in_err-ids.field-0.0))
+    (λ now. RefusesOr {T = List (List ℕ)} c.args.at.now (refuse_linkage (is_there c.args.there now) c.args.lids.now c.as_str.result.now [] c.as_slice-members.result.now) (λ ids. ids ≡ append_new [] (member_ids c.args.lids.now c.as_slice-members.result.now)) (Err c.in_err-ids.field-0.0))
     c.loop-rel.invariant.looks (c.in_err-ids.ensures.sees c.args.schema.now) w now behind leads)
 
 pub loop-rel-preserved : goal.loop-rel-preserved

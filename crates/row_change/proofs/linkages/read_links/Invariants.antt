@@ -3,7 +3,8 @@ use Rattle.std.specs.Prelude.{map}
 use Rattle.resource_schema.specs.Kinds.{relationships_of}
 use Rattle.store_model.specs.Change.{first_of, refuse_linkage, linkage_pointer, set_links}
 use Rattle.store_model.specs.Reach.{is_row_in, linked_keys}
-use Rattle.row_change.specs.Steps.{LooksAt, Sees, is_there}
+use Rattle.trial_steps.specs.Steps.{LooksAt, Sees}
+use Rattle.row_change.specs.Steps.{is_there}
 use Rattle.row_change.proofs.linkages.read_links.Given as goal
 
 abbrev pub invariant-loop-rel : goal.invariant-loop-rel

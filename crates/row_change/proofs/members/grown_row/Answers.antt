@@ -8,9 +8,10 @@ use Rattle.store_model.specs.Change.{refused, refuse_target, refuse_linkage, nam
 use Rattle.store_model.specs.Reach.{is_row_in, target_keys, member_keys}
 use Rattle.row_change.specs.declared.places.There.TheVariants as there
 use Rattle.row_change.specs.declared.updates.Rewrite.{Rewrite}
-use Rattle.row_change.specs.Steps.{Judges, is_there}
+use Rattle.trial_steps.specs.Steps.{RefusesOr}
+use Rattle.row_change.specs.Steps.{is_there}
 use Rattle.row_change.specs.Rewrites.{IsRewrite}
-use Rattle.row_change.proofs.StepLaws.{sees_before, sees_after}
+use Rattle.trial_steps.specs.StepLaws.{sees_before, sees_after}
 use Rattle.row_change.proofs.Judging.{judges_passed}
 use Rattle.row_change.proofs.RewriteOutcomes.{first_told, then_told, first_alone}
 use Rattle.row_change.proofs.MemberSteps.{judged_joined, named_ids_are}
@@ -30,10 +31,10 @@ returns-in_err-ids-clause-sees g c = λ schema w now behind leads.
     let target : Option Refusal = refuse_target now c.args.lids.now c.args.who.now in
     let first = sees_before schema g.V.View.cells (is_row_in (member_keys c.args.lids.now c.as_slice.result.now)) c.args.recorder.now c.find_target.new.recorder c.join_members.new.recorder
     (λ now. (refuse_target now c.args.lids.now c.args.who.now ≡ None) × (named_row now c.args.lids.now c.args.who.now ≡ Some c.in_ok-old.old)) c.join_members.ensures.looks (c.in_ok-old.ensures.sees schema) w now behind leads in
-    let second : Judges {T = List (List ℕ)} c.args.at.now (refuse_linkage (is_there there.AtRow now) c.args.lids.now (codes "/data") (named_ids now c.args.lids.now c.args.who.now c.args.rel) c.args.members.now) (λ ids. ids ≡ append_new (named_ids now c.args.lids.now c.args.who.now c.args.rel) (member_ids c.args.lids.now c.args.members.now)) (Err c.in_err-ids.field-0.0) =
+    let second : RefusesOr {T = List (List ℕ)} c.args.at.now (refuse_linkage (is_there there.AtRow now) c.args.lids.now (codes "/data") (named_ids now c.args.lids.now c.args.who.now c.args.rel) c.args.members.now) (λ ids. ids ≡ append_new (named_ids now c.args.lids.now c.args.who.now c.args.rel) (member_ids c.args.lids.now c.args.members.now)) (Err c.in_err-ids.field-0.0) =
     judged_joined c.args.at.now c.args.lids.now (is_there there.AtRow now) (codes "/data") c.linked_ids-linked.result.now (named_ids now c.args.lids.now c.args.who.now c.args.rel) c.as_slice.result.now c.args.members.now (Err c.in_err-ids.field-0.0) (c.linked_ids-linked.ensures ∙ named_ids_are now c.args.lids.now c.args.who.now c.args.rel c.in_ok-old.old first.1) c.as_slice.ensures
     (sees_after schema g.V.View.cells (is_row_in (target_keys c.args.lids.now c.args.who.now)) c.args.recorder.now c.find_target.new.recorder c.join_members.new.recorder
-    (λ now. Judges {T = List (List ℕ)} c.args.at.now (refuse_linkage (is_there there.AtRow now) c.args.lids.now (codes "/data") c.linked_ids-linked.result.now c.as_slice.result.now) (λ ids. ids ≡ append_new c.linked_ids-linked.result.now (member_ids c.args.lids.now c.as_slice.result.now)) (Err c.in_err-ids.field-0.0))
+    (λ now. RefusesOr {T = List (List ℕ)} c.args.at.now (refuse_linkage (is_there there.AtRow now) c.args.lids.now (codes "/data") c.linked_ids-linked.result.now c.as_slice.result.now) (λ ids. ids ≡ append_new c.linked_ids-linked.result.now (member_ids c.args.lids.now c.as_slice.result.now)) (Err c.in_err-ids.field-0.0))
     c.find_target.ensures.looks (c.in_err-ids.ensures.sees schema) w now behind leads) in
     judges_passed {T = List (List ℕ)} {U = Rewrite} c.args.at.now (refuse_linkage (is_there there.AtRow now) c.args.lids.now (codes "/data") (named_ids now c.args.lids.now c.args.who.now c.args.rel) c.args.members.now) (refused schema now c.args.lids.now (operation.AddLinks c.args.who.now c.args.rel c.args.members.now))
     (λ ids. ids ≡ append_new (named_ids now c.args.lids.now c.args.who.now c.args.rel) (member_ids c.args.lids.now c.args.members.now))
@@ -47,10 +48,10 @@ returns-clause-sees g c = λ schema w now behind leads.
     let target : Option Refusal = refuse_target now c.args.lids.now c.args.who.now in
     let first = sees_before schema g.V.View.cells (is_row_in (member_keys c.args.lids.now c.as_slice.result.now)) c.args.recorder.now c.find_target.new.recorder c.join_members.new.recorder
     (λ now. (refuse_target now c.args.lids.now c.args.who.now ≡ None) × (named_row now c.args.lids.now c.args.who.now ≡ Some c.in_ok-old.old)) c.join_members.ensures.looks (c.in_ok-old.ensures.sees schema) w now behind leads in
-    let second : Judges {T = List (List ℕ)} c.args.at.now (refuse_linkage (is_there there.AtRow now) c.args.lids.now (codes "/data") (named_ids now c.args.lids.now c.args.who.now c.args.rel) c.args.members.now) (λ ids. ids ≡ append_new (named_ids now c.args.lids.now c.args.who.now c.args.rel) (member_ids c.args.lids.now c.args.members.now)) (Ok c.in_ok-ids.ids) =
+    let second : RefusesOr {T = List (List ℕ)} c.args.at.now (refuse_linkage (is_there there.AtRow now) c.args.lids.now (codes "/data") (named_ids now c.args.lids.now c.args.who.now c.args.rel) c.args.members.now) (λ ids. ids ≡ append_new (named_ids now c.args.lids.now c.args.who.now c.args.rel) (member_ids c.args.lids.now c.args.members.now)) (Ok c.in_ok-ids.ids) =
     judged_joined c.args.at.now c.args.lids.now (is_there there.AtRow now) (codes "/data") c.linked_ids-linked.result.now (named_ids now c.args.lids.now c.args.who.now c.args.rel) c.as_slice.result.now c.args.members.now (Ok c.in_ok-ids.ids) (c.linked_ids-linked.ensures ∙ named_ids_are now c.args.lids.now c.args.who.now c.args.rel c.in_ok-old.old first.1) c.as_slice.ensures
     (sees_after schema g.V.View.cells (is_row_in (target_keys c.args.lids.now c.args.who.now)) c.args.recorder.now c.find_target.new.recorder c.join_members.new.recorder
-    (λ now. Judges {T = List (List ℕ)} c.args.at.now (refuse_linkage (is_there there.AtRow now) c.args.lids.now (codes "/data") c.linked_ids-linked.result.now c.as_slice.result.now) (λ ids. ids ≡ append_new c.linked_ids-linked.result.now (member_ids c.args.lids.now c.as_slice.result.now)) (Ok c.in_ok-ids.ids))
+    (λ now. RefusesOr {T = List (List ℕ)} c.args.at.now (refuse_linkage (is_there there.AtRow now) c.args.lids.now (codes "/data") c.linked_ids-linked.result.now c.as_slice.result.now) (λ ids. ids ≡ append_new c.linked_ids-linked.result.now (member_ids c.args.lids.now c.as_slice.result.now)) (Ok c.in_ok-ids.ids))
     c.find_target.ensures.looks (c.in_ok-ids.ensures.sees schema) w now behind leads) in (
       then_told target (refuse_linkage (has_row now) c.args.lids.now (codes "/data") (named_ids now c.args.lids.now c.args.who.now c.args.rel) c.args.members.now ∷ []) None first.0 (first_alone _ ∙ second.0),
       record {

@@ -9,9 +9,10 @@ use Rattle.store_model.specs.Change.{first_of, refused, refuse_target, refuse_me
 use Rattle.store_model.specs.Reach.{is_row_in, target_keys, member_keys}
 use Rattle.row_change.specs.declared.places.There.TheVariants as there
 use Rattle.row_change.specs.declared.updates.Rewrite.{Rewrite}
-use Rattle.row_change.specs.Steps.{Judges, is_there}
+use Rattle.trial_steps.specs.Steps.{RefusesOr}
+use Rattle.row_change.specs.Steps.{is_there}
 use Rattle.row_change.specs.Rewrites.{IsRewrite}
-use Rattle.row_change.proofs.StepLaws.{sees_before, sees_after, looks_before}
+use Rattle.trial_steps.specs.StepLaws.{sees_before, sees_after, looks_before}
 use Rattle.row_change.proofs.Judging.{judges_passed}
 use Rattle.row_change.proofs.RewriteOutcomes.{first_told, then_told}
 use Rattle.row_change.proofs.MemberSteps.{judged_members}
@@ -31,10 +32,10 @@ returns-in_err-dropped-clause-sees g c = λ schema w now behind leads.
     let target : Option Refusal = refuse_target now c.args.lids.now c.args.who.now in
     let first = sees_before schema g.V.View.cells (is_row_in (member_keys c.args.lids.now c.as_slice.result.now)) c.args.recorder.now c.find_target.new.recorder c.read_members.new.recorder
     (λ now. (refuse_target now c.args.lids.now c.args.who.now ≡ None) × (named_row now c.args.lids.now c.args.who.now ≡ Some c.in_ok-old.old)) c.read_members.ensures.looks (c.in_ok-old.ensures.sees schema) w now behind leads in
-    let second : Judges {T = List (List ℕ)} c.args.at.now (first_of (map (refuse_member (is_there there.Anywhere now) c.args.lids.now (codes "/data")) c.args.members.now)) (λ ids. ids ≡ member_ids c.args.lids.now c.args.members.now) (Err c.in_err-dropped.field-0.0) =
+    let second : RefusesOr {T = List (List ℕ)} c.args.at.now (first_of (map (refuse_member (is_there there.Anywhere now) c.args.lids.now (codes "/data")) c.args.members.now)) (λ ids. ids ≡ member_ids c.args.lids.now c.args.members.now) (Err c.in_err-dropped.field-0.0) =
     judged_members c.args.at.now c.args.lids.now (is_there there.Anywhere now) (codes "/data") c.as_slice.result.now c.args.members.now (Err c.in_err-dropped.field-0.0) c.as_slice.ensures
     (sees_after schema g.V.View.cells (is_row_in (target_keys c.args.lids.now c.args.who.now)) c.args.recorder.now c.find_target.new.recorder c.read_members.new.recorder
-    (λ now. Judges {T = List (List ℕ)} c.args.at.now (first_of (map (refuse_member (is_there there.Anywhere now) c.args.lids.now (codes "/data")) c.as_slice.result.now)) (λ ids. ids ≡ member_ids c.args.lids.now c.as_slice.result.now) (Err c.in_err-dropped.field-0.0))
+    (λ now. RefusesOr {T = List (List ℕ)} c.args.at.now (first_of (map (refuse_member (is_there there.Anywhere now) c.args.lids.now (codes "/data")) c.as_slice.result.now)) (λ ids. ids ≡ member_ids c.args.lids.now c.as_slice.result.now) (Err c.in_err-dropped.field-0.0))
     c.find_target.ensures.looks (c.in_err-dropped.ensures.sees schema) w now behind leads) in
     judges_passed {T = List (List ℕ)} {U = Rewrite} c.args.at.now (first_of (map (refuse_member (is_there there.Anywhere now) c.args.lids.now (codes "/data")) c.args.members.now)) (refused schema now c.args.lids.now (operation.DropLinks c.args.who.now c.args.rel c.args.members.now))
     (λ ids. ids ≡ member_ids c.args.lids.now c.args.members.now)
@@ -48,10 +49,10 @@ returns-clause-sees g c = λ schema w now behind leads.
     let target : Option Refusal = refuse_target now c.args.lids.now c.args.who.now in
     let first = sees_before schema g.V.View.cells (is_row_in (member_keys c.args.lids.now c.as_slice.result.now)) c.args.recorder.now c.find_target.new.recorder c.read_members.new.recorder
     (λ now. (refuse_target now c.args.lids.now c.args.who.now ≡ None) × (named_row now c.args.lids.now c.args.who.now ≡ Some c.in_ok-old.old)) c.read_members.ensures.looks (c.in_ok-old.ensures.sees schema) w now behind leads in
-    let second : Judges {T = List (List ℕ)} c.args.at.now (first_of (map (refuse_member (is_there there.Anywhere now) c.args.lids.now (codes "/data")) c.args.members.now)) (λ ids. ids ≡ member_ids c.args.lids.now c.args.members.now) (Ok c.in_ok-dropped.dropped) =
+    let second : RefusesOr {T = List (List ℕ)} c.args.at.now (first_of (map (refuse_member (is_there there.Anywhere now) c.args.lids.now (codes "/data")) c.args.members.now)) (λ ids. ids ≡ member_ids c.args.lids.now c.args.members.now) (Ok c.in_ok-dropped.dropped) =
     judged_members c.args.at.now c.args.lids.now (is_there there.Anywhere now) (codes "/data") c.as_slice.result.now c.args.members.now (Ok c.in_ok-dropped.dropped) c.as_slice.ensures
     (sees_after schema g.V.View.cells (is_row_in (target_keys c.args.lids.now c.args.who.now)) c.args.recorder.now c.find_target.new.recorder c.read_members.new.recorder
-    (λ now. Judges {T = List (List ℕ)} c.args.at.now (first_of (map (refuse_member (is_there there.Anywhere now) c.args.lids.now (codes "/data")) c.as_slice.result.now)) (λ ids. ids ≡ member_ids c.args.lids.now c.as_slice.result.now) (Ok c.in_ok-dropped.dropped))
+    (λ now. RefusesOr {T = List (List ℕ)} c.args.at.now (first_of (map (refuse_member (is_there there.Anywhere now) c.args.lids.now (codes "/data")) c.as_slice.result.now)) (λ ids. ids ≡ member_ids c.args.lids.now c.as_slice.result.now) (Ok c.in_ok-dropped.dropped))
     c.find_target.ensures.looks (c.in_ok-dropped.ensures.sees schema) w now behind leads) in (
       then_told target (map (refuse_member (λ k. true) c.args.lids.now (codes "/data")) c.args.members.now) None first.0 (second.0),
       record {

@@ -3,7 +3,7 @@ use Rattle.ident_rules.specs.declared.key.Key.{Key}
 use Rattle.world_cells.specs.World.{cell_at}
 use Rattle.store_model.specs.Reach.{is_back_to}
 use Rattle.row_change.specs.WaysBack.{IsFirstLink}
-use Rattle.row_change.proofs.StepLaws.{sees_before, sees_after}
+use Rattle.trial_steps.specs.StepLaws.{sees_before, sees_after}
 use Rattle.row_change.proofs.Referring.{none_first, other_first, own_first, is_apart, is_own, fits_top}
 use Rattle.row_change.proofs.references.is_referenced.Goals as goal
 

@@ -9,9 +9,9 @@ use Rattle.error_objects.specs.declared.refusals.Refusal.{Refusal}
 use Rattle.store_model.specs.Change.{refused, refuse_target, refuse_links, named_row, set_values, set_links}
 use Rattle.store_model.specs.Reach.{is_row_in, target_keys, linked_keys}
 use Rattle.row_change.specs.declared.updates.Rewrite.{Rewrite}
-use Rattle.row_change.specs.Steps.{Judges}
+use Rattle.trial_steps.specs.Steps.{RefusesOr}
 use Rattle.row_change.specs.Rewrites.{IsRewrite}
-use Rattle.row_change.proofs.StepLaws.{sees_before, sees_after}
+use Rattle.trial_steps.specs.StepLaws.{sees_before, sees_after}
 use Rattle.row_change.proofs.Judging.{judges_passed}
 use Rattle.row_change.proofs.RewriteOutcomes.{first_told, then_told, first_alone}
 use Rattle.row_change.proofs.updates.updated_row.Goals as goal
@@ -38,7 +38,7 @@ returns-in_err-links-clause-sees g c = λ w now behind leads.
     c.in_err-links.field-0.0 c.from_residual-in_err-links.result c.from_residual-in_err-links.ensures.0 c.from_residual-in_err-links.ensures.1
     (λ r told. then_told target (links ∷ []) (Some r) none (first_alone links ∙ told))
     (sees_after c.args.schema.now g.V.View.cells (is_row_in (target_keys c.args.lids.now c.args.who.now)) c.args.recorder.now c.find_target.new.recorder c.new_links.new.recorder
-    (λ now. Judges {T = List Link} c.args.at.now (refuse_links (has_row now) c.args.lids.now (relationships_of c.args.schema.now (kind_of c.args.who.now.named)) c.args.links.now) (λ new. new ≡ set_links c.args.lids.now c.in_ok-old.old.links c.args.links.now) (Err c.in_err-links.field-0.0))
+    (λ now. RefusesOr {T = List Link} c.args.at.now (refuse_links (has_row now) c.args.lids.now (relationships_of c.args.schema.now (kind_of c.args.who.now.named)) c.args.links.now) (λ new. new ≡ set_links c.args.lids.now c.in_ok-old.old.links c.args.links.now) (Err c.in_err-links.field-0.0))
     c.find_target.ensures.looks c.in_err-links.ensures.sees w now behind leads)
 
 pub returns-clause-sees : goal.returns-clause-sees

@@ -1,6 +1,6 @@
 use Rattle.std.proofs.Common.{take, Some}
 use Rattle.world_cells.specs.declared.cells.Cell.TheVariants as cell
-use Rattle.row_change.specs.Steps.{LeavesReads}
+use Rattle.trial_steps.specs.Steps.{LeavesReads}
 use Rattle.row_change.specs.WritesBacks.{WritesBacks}
 use Rattle.row_change.proofs.writes.put_backs.Given as goal
 

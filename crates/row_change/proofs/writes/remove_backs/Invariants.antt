@@ -1,5 +1,5 @@
 use Rattle.std.proofs.Common.{take, None}
-use Rattle.row_change.specs.Steps.{LeavesReads}
+use Rattle.trial_steps.specs.Steps.{LeavesReads}
 use Rattle.row_change.specs.WritesBacks.{WritesBacks}
 use Rattle.row_change.proofs.writes.remove_backs.Given as goal
 

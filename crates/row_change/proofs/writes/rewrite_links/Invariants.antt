@@ -1,4 +1,4 @@
-use Rattle.row_change.specs.Steps.{LeavesReads}
+use Rattle.trial_steps.specs.Steps.{LeavesReads}
 use Rattle.row_change.specs.WritesBacks.{RewritesLinks}
 use Rattle.row_change.proofs.writes.rewrite_links.Given as goal
 

@@ -20,8 +20,8 @@ use Rattle.world_cells.specs.World.{World, cell_at}
 use Rattle.store_model.specs.Reach.{is_row_in}
 use Rattle.view_reads.specs.Recording.{Recording, Follows, read_key}
 use Rattle.view_reads.specs.RecordingLaws.{still_read, follows_itself, follows_on}
-use Rattle.row_change.specs.Trial.{StandsBehind}
-use Rattle.row_change.specs.Steps.{LooksAt, Sees}
+use Rattle.trial_steps.specs.Steps.{StandsBehind}
+use Rattle.trial_steps.specs.Steps.{LooksAt, Sees}
 
 -- ---- what steps look at
 

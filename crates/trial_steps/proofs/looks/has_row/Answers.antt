@@ -1,9 +1,9 @@
 use Rattle.std.proofs.Common.{[], ◌∷◌, ◌∙◌}
 use Rattle.world_cells.specs.declared.keys.CellKey.TheVariants as cell_key
 use Rattle.store_model.specs.Reach.{is_row_in}
-use Rattle.row_change.proofs.StepLaws.{row_in_one}
-use Rattle.row_change.proofs.Finding.{looked_looks, looked_sees, row_there}
-use Rattle.row_change.proofs.finds.has_row.Goals as goal
+use Rattle.trial_steps.specs.StepLaws.{row_in_one}
+use Rattle.trial_steps.specs.Finding.{looked_looks, looked_sees, row_there}
+use Rattle.trial_steps.proofs.looks.has_row.Goals as goal
 
 pub returns-clause-looks : goal.returns-clause-looks
 returns-clause-looks g c = looked_looks g.V.View.cells (is_row_in (c.args.key.now ∷ [])) c.args.recorder.now (cell_key.Row c.args.key.now) c.get.result c.get.follows.lender-at-none (row_in_one c.args.key.now) c.get.follows.holds-at-none

@@ -3,10 +3,10 @@ use Rattle.std.specs.Option.{option_copied}
 use Rattle.world_cells.specs.declared.keys.CellKey.TheVariants as cell_key
 use Rattle.world_cells.specs.World.{row_at}
 use Rattle.store_model.specs.Reach.{is_row_in}
-use Rattle.row_change.specs.Found.{row_of}
-use Rattle.row_change.proofs.StepLaws.{row_in_one}
-use Rattle.row_change.proofs.Finding.{looked_looks, looked_sees, row_found, copy_found}
-use Rattle.row_change.proofs.finds.find_row.Goals as goal
+use Rattle.trial_steps.specs.Found.{row_of}
+use Rattle.trial_steps.specs.StepLaws.{row_in_one}
+use Rattle.trial_steps.specs.Finding.{looked_looks, looked_sees, row_found, copy_found}
+use Rattle.trial_steps.proofs.looks.find_row.Goals as goal
 
 pub returns-clause-looks : goal.returns-clause-looks
 returns-clause-looks g c = looked_looks g.V.View.cells (is_row_in (c.args.key.now ∷ [])) c.args.recorder.now (cell_key.Row c.args.key.now) c.get.result c.get.follows.lender-at-none (row_in_one c.args.key.now) c.get.follows.holds-at-none

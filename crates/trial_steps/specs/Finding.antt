@@ -19,9 +19,9 @@ use Rattle.world_cells.specs.Reads.{Cells}
 use Rattle.world_cells.specs.World.{World, cell_at, row_at, has_row, next_id}
 use Rattle.view_reads.specs.Recording.{Recording, Looked}
 use Rattle.view_reads.specs.RecordingLaws.{looked_alike}
-use Rattle.row_change.specs.Steps.{LooksAt, Sees}
-use Rattle.row_change.specs.Found.{row_of, number_of}
-use Rattle.row_change.proofs.StepLaws.{looks_key, looks_still}
+use Rattle.trial_steps.specs.Steps.{LooksAt, Sees}
+use Rattle.trial_steps.specs.Found.{row_of, number_of}
+use Rattle.trial_steps.specs.StepLaws.{looks_key, looks_still}
 
 -- a look at a key looks at nothing else, whatever it answers
 pub looked_looks : {V : Type 0} (cells : V → Cells) (test : CellKey → Bool) (old : Recording V) (key : CellKey) (result : Result (Option (Bor Cell)) NoMemory) (new : Recording V)
