@@ -2,6 +2,7 @@
 use Rattle.std.specs.Prelude.{ℕ, List, [], ◌∷◌, length, ◌-◌, ◌==◌, ◌&&◌, Bool, nat_lt, if◌then◌else◌, Option, Some, None, Result, Ok, Err, slice_index}
 use Rattle.std.specs.Char.{is_ascii_alphanumeric}
 use Rattle.ident_rules.specs.Id.{is_id, bad_place}
+use Rattle.ident_rules.specs.declared.id.TheConstants.{ID_LIMIT}
 use Rattle.ident_rules.specs.declared.name.NameFault.{NameFault}
 use Rattle.ident_rules.specs.declared.name.NameFault.TheVariants.{Empty, TooLong, BadByte}
 
@@ -27,5 +28,5 @@ or_bad_byte text (Some place) = Err (BadByte place)
 abbrev pub read_name : List ℕ → Result (List ℕ) NameFault
 read_name text =
     if length text == 0 then Err Empty
-    else if nat_lt 64 (length text) then Err TooLong
+    else if nat_lt ID_LIMIT (length text) then Err TooLong
     else or_bad_byte text (bad_name_place text)

@@ -2,10 +2,10 @@ ghost use Rattle.std.specs.Prelude.{◌≡◌, IsTrue, refl, Some};
 ghost use Rattle.ident_rules.specs.Name.{read_name, is_name, bad_name_place};
 
 use crate::Id;
-use crate::id::{bad_place, id_of};
+use crate::id::{ID_LIMIT, bad_place, id_of};
 use std::marker::Model;
 
-/// The name of a type or a field: 1 to 64 letters, digits, `_` or `-`, with a letter or a digit first and last. A
+/// The name of a type or a field: 1 to `ID_LIMIT` letters, digits, `_` or `-`, with a letter or a digit first and last. A
 /// rule of this project within the member names of JSON:API 1.1 ("Member Names").
 #[derive(Clone, Copy, Debug)]
 pub struct Name {
@@ -30,7 +30,7 @@ impl Model for Name {
 pub enum NameFault {
     /// It has no byte.
     Empty,
-    /// It has more than 64 bytes.
+    /// It has more than `ID_LIMIT` bytes.
     TooLong,
     /// At this place, from 0, stands the first byte that is no letter, digit, `_` or `-`, or that is `_` or `-` and
     /// stands first or last.
@@ -83,7 +83,7 @@ pub fn read_name(text: &str) -> Result<Name, NameFault>
     if text.is_empty() {
         return Err(NameFault::Empty);
     }
-    if text.len() > 64 {
+    if text.len() > ID_LIMIT {
         return Err(NameFault::TooLong);
     }
     if let Some(place) = bad_name_place(text) {

@@ -12,12 +12,12 @@ ghost use Rattle.request_model.specs.Documents.{bad_document, create_of, update_
 ghost use Rattle.request_model.specs.Plans.{body_value, by_path, change, change_of, change_without_query, data_pointer, is_list, links_operation, update_task};
 ghost use Rattle.request_model.specs.Words.{result_map};
 ghost use Rattle.resource_reader.specs.Reads.{IsReadVec};
-ghost use Rattle.ident_rules.specs.Stops.{Gives};
+ghost use Rattle.ident_rules.specs.StepErrors.{Gives};
 
 use crate::replies::{refuse, refuse_document};
 use error_objects::{Code, Read, Refusal};
 use http_messages::Message;
-use ident_rules::{Key, List, NoMemory, Stop};
+use ident_rules::{Key, List, NoMemory, StepError};
 use json_forms::{member, parse};
 use resource_reader::{read_create, read_members, read_update};
 use resource_schema::{Schema, Target};
@@ -26,7 +26,7 @@ use std::alloc::Global;
 use task_forms::{Member, Named, Operation, ReplyForm, Task, Where, Who};
 
 /// The value of a body, which is a JSON text (RFC 8259).
-fn body_value(alloc: Global, body: &[u8]) -> Result<Value, Stop<Refusal>>
+fn body_value(alloc: Global, body: &[u8]) -> Result<Value, StepError<Refusal>>
     ensures { Gives (result_map view result) (body_value body.now) }
 {
     match parse(alloc, body)? {
@@ -36,7 +36,7 @@ fn body_value(alloc: Global, body: &[u8]) -> Result<Value, Stop<Refusal>>
 }
 
 /// The member `data` at the top (JSON:API 1.1, "Top Level").
-fn data_of(alloc: Global, document: &Value) -> Result<&Value, Stop<Refusal>>
+fn data_of(alloc: Global, document: &Value) -> Result<&Value, StepError<Refusal>>
     ensures { Gives (result_map (λ v. view v.now) result) (ok_or (get (codes "data") (view document.now)) (bad_document [])) }
 {
     match member(document, "data") {
@@ -80,24 +80,24 @@ fn links_operation(method: &str, who: Who, rel: u32, members: List<Member>) -> O
 }
 
 /// What a reader of documents answers, as a result.
-fn taken<T: Drop>(read: Read<T>) -> Result<T, Stop<Refusal>>
+fn taken<T: Drop>(read: Read<T>) -> Result<T, StepError<Refusal>>
     ensures { (d : Result T Refusal) → IsRead read d → Gives result d }
 {
     match read {
         Read::Good(value) => Ok(value),
-        Read::Refused(refusal) => Err(Stop::Because(refusal)),
-        Read::NoMemory => Err(Stop::NoMemory),
+        Read::Refused(refusal) => Err(StepError::Because(refusal)),
+        Read::NoMemory => Err(StepError::NoMemory),
     }
 }
 
 /// The members that a reader of documents answers.
-fn members_of(read: Read<Vec<Member>>) -> Result<List<Member>, Stop<Refusal>>
+fn members_of(read: Read<Vec<Member>>) -> Result<List<Member>, StepError<Refusal>>
     ensures { (d : Result (Listed Member) Refusal) → IsReadVec read d → Gives result d }
 {
     match read {
         Read::Good(members) => Ok(List::from_vec(members)),
-        Read::Refused(refusal) => Err(Stop::Because(refusal)),
-        Read::NoMemory => Err(Stop::NoMemory),
+        Read::Refused(refusal) => Err(StepError::Because(refusal)),
+        Read::NoMemory => Err(StepError::NoMemory),
     }
 }
 
@@ -107,7 +107,7 @@ fn created(
     schema: &Schema,
     kind: u32,
     value: &Value,
-) -> Result<Operation, Stop<Refusal>>
+) -> Result<Operation, StepError<Refusal>>
     ensures { Gives result (create_of schema.now (Some kind) data_pointer (view value.now)) }
 {
     taken(read_create(alloc, schema, value, "/data", Some(kind)))
@@ -119,7 +119,7 @@ fn create_task(
     schema: &Schema,
     message: &Message,
     kind: u32,
-) -> Result<Task, Stop<Refusal>>
+) -> Result<Task, StepError<Refusal>>
     ensures { Gives result (change_of schema.now message.now.method message.now.body (target.Collection kind)) }
 {
     let document = body_value(alloc, message.body.as_slice())?;
@@ -134,7 +134,7 @@ fn updated(
     schema: &Schema,
     key: &Key,
     value: &Value,
-) -> Result<Operation, Stop<Refusal>>
+) -> Result<Operation, StepError<Refusal>>
     ensures { Gives result (update_of schema.now (Some (by_path key.now)) data_pointer (view value.now)) }
 {
     taken(read_update(alloc, schema, value, "/data", Some(by_path(key))))
@@ -146,7 +146,7 @@ fn update_task(
     schema: &Schema,
     key: &Key,
     body: &[u8],
-) -> Result<Task, Stop<Refusal>>
+) -> Result<Task, StepError<Refusal>>
     ensures { Gives result (update_task schema.now key.now body.now) }
 {
     let document = body_value(alloc, body)?;
@@ -172,7 +172,7 @@ fn resource_task(
     schema: &Schema,
     message: &Message,
     key: &Key,
-) -> Result<Task, Stop<Refusal>>
+) -> Result<Task, StepError<Refusal>>
     ensures { Gives result (change_of schema.now message.now.method message.now.body (target.Resource key.now)) }
 {
     if message.method.as_str() == "DELETE" {
@@ -189,7 +189,7 @@ fn links_task(
     message: &Message,
     key: &Key,
     rel: u32,
-) -> Result<Task, Stop<Refusal>>
+) -> Result<Task, StepError<Refusal>>
     ensures { Gives result (change_of schema.now message.now.method message.now.body (target.Linkage key.now rel)) }
 {
     let document = body_value(alloc, message.body.as_slice())?;
@@ -205,7 +205,7 @@ fn change_of(
     schema: &Schema,
     message: &Message,
     target: &Target,
-) -> Result<Task, Stop<Refusal>>
+) -> Result<Task, StepError<Refusal>>
     requires { is_list target.now ≡ false }
     ensures { Gives result (change_of schema.now message.now.method message.now.body target.now) }
 {
@@ -224,7 +224,7 @@ pub fn change_without_query(
     schema: &Schema,
     message: &Message,
     target: &Target,
-) -> Result<Task, Stop<Refusal>>
+) -> Result<Task, StepError<Refusal>>
     requires { is_list target.now ≡ false }
     ensures { Gives result (change_without_query schema.now message.now.method message.now.body target.now []) }
 {

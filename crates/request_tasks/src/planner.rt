@@ -7,7 +7,7 @@ ghost use Rattle.request_tasks.specs.BuiltPlans.{planned_so_far, IsBuiltTask};
 use crate::laws::{built_task_is_fit, planned_task_is_built};
 use crate::tasks::task_or_reply_so_far;
 use http_messages::Message;
-use ident_rules::{NoMemory, Stop};
+use ident_rules::{NoMemory, StepError};
 use resource_schema::Schema;
 use std::alloc::Global;
 use std::marker::Model;
@@ -23,8 +23,8 @@ fn planned_so_far(alloc: Global, schema: &Schema, message: &Message) -> Result<P
     planned_task_is_built();
     match task_or_reply_so_far(alloc, schema, message) {
         Ok(task) => Ok(Plan::Run(task)),
-        Err(Stop::Because(reply)) => Ok(Plan::Fixed(reply)),
-        Err(Stop::NoMemory) => Err(NoMemory),
+        Err(StepError::Because(reply)) => Ok(Plan::Fixed(reply)),
+        Err(StepError::NoMemory) => Err(NoMemory),
     }
 }
 

@@ -5,11 +5,11 @@ ghost use Rattle.error_objects.specs.Refusals.{at_header, refusal};
 ghost use Rattle.task_forms.specs.declared.tasks.Task.{Task};
 ghost use Rattle.request_model.specs.Documents.{bad_document};
 ghost use Rattle.request_model.specs.Plans.{not_allowed, or_reply};
-ghost use Rattle.ident_rules.specs.Stops.{IsStop, Stops};
+ghost use Rattle.ident_rules.specs.StepErrors.{IsStop, Stops};
 
 use error_objects::{Blame, Code, Refusal, error_reply};
 use http_messages::{Allow, Reply};
-use ident_rules::{NoMemory, Stop, Text};
+use ident_rules::{NoMemory, StepError, Text};
 use std::alloc::Global;
 
 /// A refusal that names nothing.
@@ -23,71 +23,71 @@ fn refusal(code: Code) -> Refusal
 }
 
 /// A refusal for this reason, which names nothing.
-pub fn refuse(code: Code) -> Stop<Refusal>
+pub fn refuse(code: Code) -> StepError<Refusal>
     ensures { IsStop result (refusal code) }
 {
-    Stop::Because(refusal(code))
+    StepError::Because(refusal(code))
 }
 
 /// A refusal of a field of the head.
-pub fn refuse_header(alloc: Global, code: Code, name: &str) -> Stop<Refusal>
+pub fn refuse_header(alloc: Global, code: Code, name: &str) -> StepError<Refusal>
     ensures { IsStop result (at_header code name.now) }
 {
     match Text::from_str(alloc, name) {
-        Ok(name) => Stop::Because(Refusal {
+        Ok(name) => StepError::Because(Refusal {
             code,
             blame: Blame::Header(name),
         }),
-        Err(NoMemory) => Stop::NoMemory,
+        Err(NoMemory) => StepError::NoMemory,
     }
 }
 
 /// A refusal of the whole body, which is no document of the kind that is asked for.
-pub fn refuse_document(alloc: Global) -> Stop<Refusal>
+pub fn refuse_document(alloc: Global) -> StepError<Refusal>
     ensures { IsStop result (bad_document []) }
 {
     match Text::from_str(alloc, "") {
-        Ok(pointer) => Stop::Because(Refusal {
+        Ok(pointer) => StepError::Because(Refusal {
             code: Code::BadDocument,
             blame: Blame::Pointer(pointer),
         }),
-        Err(NoMemory) => Stop::NoMemory,
+        Err(NoMemory) => StepError::NoMemory,
     }
 }
 
 /// The reply to a refusal.
-fn error_stop(alloc: Global, refusal: &Refusal) -> Stop<Reply>
+fn error_stop(alloc: Global, refusal: &Refusal) -> StepError<Reply>
     ensures { IsStop result (error_reply refusal.now) }
 {
     match error_reply(alloc, refusal) {
-        Ok(reply) => Stop::Because(reply),
-        Err(NoMemory) => Stop::NoMemory,
+        Ok(reply) => StepError::Because(reply),
+        Err(NoMemory) => StepError::NoMemory,
     }
 }
 
 /// The reply to a refusal that names nothing.
-pub fn reply_with(alloc: Global, code: Code) -> Stop<Reply>
+pub fn reply_with(alloc: Global, code: Code) -> StepError<Reply>
     ensures { IsStop result (error_reply (refusal code)) }
 {
     error_stop(alloc, &refusal(code))
 }
 
 /// The reply to a method that the target does not answer (RFC 9110, section 15.5.6).
-pub fn not_allowed(alloc: Global, allow: Allow) -> Stop<Reply>
+pub fn not_allowed(alloc: Global, allow: Allow) -> StepError<Reply>
     ensures { IsStop result (not_allowed allow) }
 {
     match error_reply(alloc, &refusal(Code::MethodNotAllowed)) {
-        Ok(reply) => Stop::Because(Reply { allow, ..reply }),
-        Err(NoMemory) => Stop::NoMemory,
+        Ok(reply) => StepError::Because(Reply { allow, ..reply }),
+        Err(NoMemory) => StepError::NoMemory,
     }
 }
 
 /// A refusal as a reply.
-pub fn or_reply(alloc: Global, stop: &Stop<Refusal>) -> Stop<Reply>
+pub fn or_reply(alloc: Global, stop: &StepError<Refusal>) -> StepError<Reply>
     ensures { (d : Result Task Refusal) → Stops stop.now d → Stops result (or_reply d) }
 {
     match stop {
-        Stop::Because(refusal) => error_stop(alloc, refusal),
-        Stop::NoMemory => Stop::NoMemory,
+        StepError::Because(refusal) => error_stop(alloc, refusal),
+        StepError::NoMemory => StepError::NoMemory,
     }
 }

@@ -6,14 +6,14 @@ ghost use Rattle.request_model.specs.Plans.{change_without_query, fetch_of, is_f
 ghost use Rattle.request_model.specs.Results.{err_if};
 ghost use Rattle.request_model.specs.Targets.{allow_of, need_of};
 ghost use Rattle.request_tasks.specs.BuiltPlans.{is_built, task_or_reply_so_far, task_so_far};
-ghost use Rattle.ident_rules.specs.Stops.{Gives};
+ghost use Rattle.ident_rules.specs.StepErrors.{Gives};
 
 use crate::changes::change_without_query;
 use crate::fetches::{fetch_of, is_fetch, is_page};
 use crate::replies::{not_allowed, or_reply, refuse, refuse_header, reply_with};
 use error_objects::{Code, Refusal};
 use http_messages::{Field, Message, Reply};
-use ident_rules::Stop;
+use ident_rules::StepError;
 use media_types::{Judged, accept_ok, content_ok};
 use resource_schema::{Schema, Target};
 use route_table::{allow_of, allows, find_target, need_of};
@@ -22,7 +22,7 @@ use task_forms::Task;
 use uri_texts::split_target;
 
 /// The refusal of fields that describe the content wrongly (JSON:API 1.1, "Server Responsibilities").
-fn judged(alloc: Global, how: Judged) -> Result<(), Stop<Refusal>>
+fn judged(alloc: Global, how: Judged) -> Result<(), StepError<Refusal>>
     ensures { Gives result (judged how) }
 {
     match how {
@@ -42,7 +42,7 @@ fn check_content(
     schema: &Schema,
     message: &Message,
     target: &Target,
-) -> Result<(), Stop<Refusal>>
+) -> Result<(), StepError<Refusal>>
     ensures { Gives result (judged (content message.now.fields (need_of (allow_of schema.now target.now) message.now.method))) }
 {
     let need = need_of(allow_of(schema, target), message.method.as_str());
@@ -50,7 +50,7 @@ fn check_content(
 }
 
 /// The fields accept a type that is given (RFC 9110, section 12.5.1).
-fn check_accept(alloc: Global, fields: &[Field]) -> Result<(), Stop<Refusal>>
+fn check_accept(alloc: Global, fields: &[Field]) -> Result<(), StepError<Refusal>>
     ensures { Gives result (err_if (not (acceptable fields.now)) (at_header code.NotAcceptable (codes "Accept"))) }
 {
     if accept_ok(alloc, fields)? {
@@ -85,7 +85,7 @@ fn task_without_query(
     schema: &Schema,
     message: &Message,
     target: &Target,
-) -> Result<Task, Stop<Refusal>>
+) -> Result<Task, StepError<Refusal>>
     requires { is_list target.now ≡ false }
     ensures { Gives result (if is_fetch message.now.method then fetch_of schema.now target.now [] else change_without_query schema.now message.now.method message.now.body target.now []) }
 {
@@ -103,7 +103,7 @@ fn task_so_far(
     message: &Message,
     target: &Target,
     query: &str,
-) -> Result<Task, Stop<Refusal>>
+) -> Result<Task, StepError<Refusal>>
     ensures { Gives result (task_so_far schema.now message.now target.now query.now) }
 {
     check_content(alloc, schema, message, target)?;
@@ -119,7 +119,7 @@ pub fn task_or_reply_so_far(
     alloc: Global,
     schema: &Schema,
     message: &Message,
-) -> Result<Task, Stop<Reply>>
+) -> Result<Task, StepError<Reply>>
     ensures { Gives result (task_or_reply_so_far schema.now message.now) }
 {
     let Some((path, query)) = split_target(message.target.as_str()) else {

@@ -1,7 +1,7 @@
 ghost use Rattle.std.specs.Prelude.{◌≡◌, Some};
 ghost use Rattle.serde_json.specs.View.{view};
 ghost use Rattle.request_model.specs.Documents.{kind_named, resource_kind, is_lid, client_id, local_id, create_of};
-ghost use Rattle.ident_rules.specs.Stops.{Gives};
+ghost use Rattle.ident_rules.specs.StepErrors.{Gives};
 ghost use Rattle.resource_reader.specs.OwnIds.{client_id_in, local_id_in};
 
 use crate::fields::read_given_links;
@@ -10,7 +10,7 @@ use crate::refusals::{bad_document, refuse_at, refuse_in};
 use crate::values::{all_values, read_given_values};
 use document_parts::member_pointer;
 use error_objects::{Code, Refusal};
-use ident_rules::{Id, Stop, Text};
+use ident_rules::{Id, StepError, Text};
 use json_forms::{member, text_of};
 use resource_schema::Schema;
 use serde_json::Value;
@@ -24,7 +24,7 @@ fn kind_named(
     endpoint: Option<u32>,
     at: &str,
     name: &str,
-) -> Result<u32, Stop<Refusal>>
+) -> Result<u32, StepError<Refusal>>
     ensures { Gives result (kind_named schema.now endpoint at.now name.now) }
 {
     match endpoint {
@@ -49,7 +49,7 @@ pub fn resource_kind(
     endpoint: Option<u32>,
     at: &str,
     value: &Value,
-) -> Result<u32, Stop<Refusal>>
+) -> Result<u32, StepError<Refusal>>
     ensures { Gives result (resource_kind schema.now endpoint at.now (view value.now)) }
 {
     object_at(alloc, at, value)?;
@@ -66,7 +66,7 @@ fn client_id(
     kind: u32,
     at: &str,
     value: &Value,
-) -> Result<Option<Id>, Stop<Refusal>>
+) -> Result<Option<Id>, StepError<Refusal>>
     ensures { Gives result (client_id schema.now kind at.now (Some (view value.now))) }
 {
     let Some(text) = text_of(value) else {
@@ -92,7 +92,7 @@ fn is_lid(text: &str) -> bool
 }
 
 /// The local id that the client gave (JSON:API 1.1, "Identification").
-fn local_id(alloc: Global, at: &str, value: &Value) -> Result<Option<Text>, Stop<Refusal>>
+fn local_id(alloc: Global, at: &str, value: &Value) -> Result<Option<Text>, StepError<Refusal>>
     ensures { Gives result (local_id at.now (Some (view value.now))) }
 {
     let Some(text) = text_of(value) else {
@@ -111,7 +111,7 @@ fn client_id_in(
     kind: u32,
     at: &str,
     value: &Value,
-) -> Result<Option<Id>, Stop<Refusal>>
+) -> Result<Option<Id>, StepError<Refusal>>
     ensures { Gives result (client_id_in schema.now kind at.now (view value.now)) }
 {
     let Some(given) = member(value, "id") else {
@@ -122,7 +122,7 @@ fn client_id_in(
 }
 
 /// The local id, at its member.
-fn local_id_in(alloc: Global, at: &str, value: &Value) -> Result<Option<Text>, Stop<Refusal>>
+fn local_id_in(alloc: Global, at: &str, value: &Value) -> Result<Option<Text>, StepError<Refusal>>
     ensures { Gives result (local_id_in at.now (view value.now)) }
 {
     let Some(given) = member(value, "lid") else {
@@ -139,7 +139,7 @@ pub fn create_of(
     endpoint: Option<u32>,
     at: &str,
     value: &Value,
-) -> Result<Operation, Stop<Refusal>>
+) -> Result<Operation, StepError<Refusal>>
     ensures { Gives result (create_of schema.now endpoint at.now (view value.now)) }
 {
     let kind = resource_kind(alloc, schema, endpoint, at, value)?;

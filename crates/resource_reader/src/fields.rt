@@ -3,7 +3,7 @@ ghost use Rattle.serde_json.specs.View.{view};
 ghost use Rattle.request_model.specs.Words.{all_ok};
 ghost use Rattle.request_model.specs.Documents.{given_link, given_links};
 ghost use Rattle.document_parts.specs.Walks.{members_in};
-ghost use Rattle.ident_rules.specs.Stops.{Gives};
+ghost use Rattle.ident_rules.specs.StepErrors.{Gives};
 ghost use Rattle.resource_reader.specs.Fields.{fields_in};
 
 use crate::linkages::read_linkage;
@@ -12,7 +12,7 @@ use crate::refusals::{bad_document, refuse_at};
 use crate::values::is_field_name;
 use document_parts::member_pointer;
 use error_objects::{Code, Refusal};
-use ident_rules::{List, Stop};
+use ident_rules::{List, StepError};
 use json_forms::member;
 use resource_schema::Schema;
 use serde_json::{Map, Value};
@@ -27,7 +27,7 @@ fn read_given_link(
     group: &str,
     name: &str,
     value: &Value,
-) -> Result<(u32, List<Member>), Stop<Refusal>>
+) -> Result<(u32, List<Member>), StepError<Refusal>>
     ensures { Gives result (given_link schema.now kind group.now (name.now, view value.now)) }
 {
     let at = member_pointer(alloc, group, name)?;
@@ -49,7 +49,7 @@ fn read_relationships(
     kind: u32,
     group: &str,
     members: &Map<String, Value>,
-) -> Result<List<(u32, List<Member>)>, Stop<Refusal>>
+) -> Result<List<(u32, List<Member>)>, StepError<Refusal>>
     ensures { Gives result (all_ok (map (given_link schema.now kind group.now) (fields_in (members_in members.now)))) }
 {
     let mut links = Vec::new(alloc);
@@ -72,7 +72,7 @@ pub fn read_given_links(
     kind: u32,
     at: &str,
     value: &Value,
-) -> Result<List<(u32, List<Member>)>, Stop<Refusal>>
+) -> Result<List<(u32, List<Member>)>, StepError<Refusal>>
     ensures { Gives result (given_links schema.now kind at.now (view value.now)) }
 {
     match member(value, "relationships") {

@@ -1,13 +1,13 @@
 ghost use Rattle.std.specs.Prelude.{◌≡◌, option_map, ℕ};
 ghost use Rattle.serde_json.specs.View.{view};
 ghost use Rattle.request_model.specs.Documents.{named_in, identifier};
-ghost use Rattle.ident_rules.specs.Stops.{Gives};
+ghost use Rattle.ident_rules.specs.StepErrors.{Gives};
 ghost use Rattle.resource_reader.specs.Names.{named_by_name};
 
 use crate::parts::id_of;
 use crate::refusals::{bad_document, refuse_in};
 use error_objects::{Code, Refusal};
-use ident_rules::{Key, Stop, Text};
+use ident_rules::{Key, StepError, Text};
 use json_forms::text_at;
 use resource_schema::Schema;
 use serde_json::Value;
@@ -43,7 +43,7 @@ pub fn read_identifier(
     kind: u32,
     at: &str,
     value: &Value,
-) -> Result<Named, Stop<Refusal>>
+) -> Result<Named, StepError<Refusal>>
     ensures { Gives result (identifier schema.now kind at.now (view value.now)) }
 {
     let Some(word) = text_at(value, "type") else {

@@ -3,14 +3,14 @@ ghost use Rattle.std.specs.List.{enumerate_from};
 ghost use Rattle.serde_json.specs.View.{view};
 ghost use Rattle.request_model.specs.Words.{all_ok};
 ghost use Rattle.request_model.specs.Documents.{to_one, to_many, indexed, linkage};
-ghost use Rattle.ident_rules.specs.Stops.{Gives};
+ghost use Rattle.ident_rules.specs.StepErrors.{Gives};
 ghost use Rattle.resource_reader.specs.Arrays.{many_of};
 
 use crate::identifiers::read_identifier;
 use crate::refusals::bad_document;
 use document_parts::item_pointer;
 use error_objects::Refusal;
-use ident_rules::{List, Stop};
+use ident_rules::{List, StepError};
 use resource_schema::Schema;
 use serde_json::Value;
 use std::alloc::Global;
@@ -23,7 +23,7 @@ fn read_to_one(
     kind: u32,
     at: &str,
     value: &Value,
-) -> Result<List<Member>, Stop<Refusal>>
+) -> Result<List<Member>, StepError<Refusal>>
     ensures { Gives result (to_one schema.now kind at.now (view value.now)) }
 {
     let mut members = Vec::new(alloc);
@@ -45,7 +45,7 @@ fn read_indexed(
     at: &str,
     place: u32,
     value: &Value,
-) -> Result<Member, Stop<Refusal>>
+) -> Result<Member, StepError<Refusal>>
     ensures { Gives result (indexed schema.now kind at.now (place, view value.now)) }
 {
     let pointer = item_pointer(alloc, at, place)?;
@@ -63,7 +63,7 @@ fn read_items(
     kind: u32,
     at: &str,
     values: &[Value],
-) -> Result<List<Member>, Stop<Refusal>>
+) -> Result<List<Member>, StepError<Refusal>>
     requires few { length values.now < 2 ^ 32 }
     ensures { Gives result (all_ok (map (indexed schema.now kind at.now) (enumerate_from 0 (map view values.now)))) }
 {
@@ -84,7 +84,7 @@ fn read_array(
     kind: u32,
     at: &str,
     values: &[Value],
-) -> Result<List<Member>, Stop<Refusal>>
+) -> Result<List<Member>, StepError<Refusal>>
     ensures { Gives result (many_of schema.now kind at.now (map view values.now)) }
 {
     if values.len() > 4_294_967_295 {
@@ -100,7 +100,7 @@ fn read_to_many(
     kind: u32,
     at: &str,
     value: &Value,
-) -> Result<List<Member>, Stop<Refusal>>
+) -> Result<List<Member>, StepError<Refusal>>
     ensures { Gives result (to_many schema.now kind at.now (view value.now)) }
 {
     match value.as_array() {
@@ -117,7 +117,7 @@ pub fn read_linkage(
     rel: u32,
     at: &str,
     value: &Value,
-) -> Result<List<Member>, Stop<Refusal>>
+) -> Result<List<Member>, StepError<Refusal>>
     ensures { Gives result (linkage schema.now kind rel at.now (view value.now)) }
 {
     let target = schema.target_of(kind, rel);

@@ -3,11 +3,11 @@ ghost use Rattle.serde_json.specs.View.{view, members_view};
 ghost use Rattle.ident_rules.specs.Id.{is_id};
 ghost use Rattle.request_model.specs.Words.{result_map, some_if};
 ghost use Rattle.request_model.specs.Documents.{object_at, text_member};
-ghost use Rattle.ident_rules.specs.Stops.{Gives};
+ghost use Rattle.ident_rules.specs.StepErrors.{Gives};
 
 use crate::refusals::{bad_document, refuse_in};
 use error_objects::{Code, Refusal};
-use ident_rules::{Id, Stop, read_id};
+use ident_rules::{Id, StepError, read_id};
 use json_forms::member;
 use serde_json::{Map, Value};
 use std::alloc::Global;
@@ -24,7 +24,7 @@ pub fn object_at<'v>(
     alloc: Global,
     at: &str,
     value: &'v Value,
-) -> Result<&'v Map<String, Value>, Stop<Refusal>>
+) -> Result<&'v Map<String, Value>, StepError<Refusal>>
     ensures { Gives (result_map (λ m. members_view m.now.entries) result) (object_at at.now (view value.now)) }
 {
     match value {
@@ -39,7 +39,7 @@ pub fn text_member<'v>(
     at: &str,
     name: &str,
     value: &'v Value,
-) -> Result<&'v str, Stop<Refusal>>
+) -> Result<&'v str, StepError<Refusal>>
     ensures { Gives (result_map (λ t. t.now) result) (text_member at.now name.now (view value.now)) }
 {
     match member(value, name) {

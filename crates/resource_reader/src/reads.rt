@@ -7,7 +7,7 @@ use crate::creates::create_of;
 use crate::linkages::read_linkage;
 use crate::updates::update_of;
 use error_objects::Read;
-use ident_rules::Stop;
+use ident_rules::StepError;
 use resource_schema::Schema;
 use serde_json::Value;
 use std::alloc::Global;
@@ -30,8 +30,8 @@ pub fn read_create(
 {
     match create_of(alloc, schema, kind, at, value) {
         Ok(operation) => Read::Good(operation),
-        Err(Stop::Because(refusal)) => Read::Refused(refusal),
-        Err(Stop::NoMemory) => Read::NoMemory,
+        Err(StepError::Because(refusal)) => Read::Refused(refusal),
+        Err(StepError::NoMemory) => Read::NoMemory,
     }
 }
 
@@ -51,8 +51,8 @@ pub fn read_update(
 {
     match update_of(alloc, schema, who, at, value) {
         Ok(operation) => Read::Good(operation),
-        Err(Stop::Because(refusal)) => Read::Refused(refusal),
-        Err(Stop::NoMemory) => Read::NoMemory,
+        Err(StepError::Because(refusal)) => Read::Refused(refusal),
+        Err(StepError::NoMemory) => Read::NoMemory,
     }
 }
 
@@ -70,7 +70,7 @@ pub fn read_members(
 {
     match read_linkage(alloc, schema, kind, rel, at, value) {
         Ok(members) => Read::Good(members.into_vec()),
-        Err(Stop::Because(refusal)) => Read::Refused(refusal),
-        Err(Stop::NoMemory) => Read::NoMemory,
+        Err(StepError::Because(refusal)) => Read::Refused(refusal),
+        Err(StepError::NoMemory) => Read::NoMemory,
     }
 }

@@ -6,7 +6,7 @@ ghost use Rattle.request_model.specs.Documents.{own_name, is_plain, lid_in, name
 ghost use Rattle.document_parts.specs.Pointers.{member_pointer};
 ghost use Rattle.error_objects.specs.Refusals.{at_pointer};
 ghost use Rattle.error_objects.specs.declared.codes.Code.TheVariants.{IdMismatch};
-ghost use Rattle.ident_rules.specs.Stops.{Gives, IsStop};
+ghost use Rattle.ident_rules.specs.StepErrors.{Gives, IsStop};
 ghost use Rattle.resource_reader.specs.Names.{named_by_name};
 
 use crate::creates::resource_kind;
@@ -16,7 +16,7 @@ use crate::parts::id_of;
 use crate::refusals::{bad_document, refuse_in};
 use crate::values::read_given_values;
 use error_objects::{Code, Refusal};
-use ident_rules::{Key, Stop, Text};
+use ident_rules::{Key, StepError, Text};
 use json_forms::{member, text_of};
 use resource_schema::Schema;
 use serde_json::Value;
@@ -56,7 +56,7 @@ fn own_name<'v>(
     at: &str,
     id: Option<&'v Value>,
     lid: Option<&'v Value>,
-) -> Result<NameText<'v>, Stop<Refusal>>
+) -> Result<NameText<'v>, StepError<Refusal>>
     ensures { (kind : ℕ) → Gives (result_map (named_by_name kind) result) (own_name kind at.now (option_map (λ v. view v.now) id.entry) (option_map (λ v. view v.now) lid.entry)) }
 {
     match id {
@@ -98,7 +98,7 @@ fn same_named(named: &Named, name: NameText<'_>) -> bool
 }
 
 /// The refusal of a name that is not the target's.
-fn mismatch(alloc: Global, at: &str, name: NameText<'_>) -> Stop<Refusal>
+fn mismatch(alloc: Global, at: &str, name: NameText<'_>) -> StepError<Refusal>
     ensures { (kind : ℕ) → IsStop result (at_pointer IdMismatch (member_pointer at.now (name_member (named_by_name kind name.entry)))) }
 {
     match name {
@@ -108,7 +108,7 @@ fn mismatch(alloc: Global, at: &str, name: NameText<'_>) -> Stop<Refusal>
 }
 
 /// The target that the data itself names.
-fn own_target(alloc: Global, kind: u32, at: &str, name: NameText<'_>) -> Result<Who, Stop<Refusal>>
+fn own_target(alloc: Global, kind: u32, at: &str, name: NameText<'_>) -> Result<Who, StepError<Refusal>>
     ensures { Gives result (target_of_update None at.now (named_by_name kind name.entry)) }
 {
     let named = match name {
@@ -131,7 +131,7 @@ fn target_of_update(
     kind: u32,
     at: &str,
     name: NameText<'_>,
-) -> Result<Who, Stop<Refusal>>
+) -> Result<Who, StepError<Refusal>>
     ensures { Gives result (target_of_update endpoint at.now (named_by_name kind name.entry)) }
 {
     match endpoint {
@@ -153,7 +153,7 @@ fn read_target(
     endpoint: Option<Who>,
     at: &str,
     value: &Value,
-) -> Result<Who, Stop<Refusal>>
+) -> Result<Who, StepError<Refusal>>
     ensures { Gives result (who_of kind endpoint at.now (view value.now)) }
 {
     match own_name(alloc, at, member(value, "id"), lid_in(&endpoint, value)) {
@@ -169,7 +169,7 @@ pub fn update_of(
     endpoint: Option<Who>,
     at: &str,
     value: &Value,
-) -> Result<Operation, Stop<Refusal>>
+) -> Result<Operation, StepError<Refusal>>
     ensures { Gives result (update_of schema.now endpoint at.now (view value.now)) }
 {
     let kind = resource_kind(alloc, schema, endpoint_kind(&endpoint), at, value)?;

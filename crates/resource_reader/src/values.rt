@@ -6,14 +6,14 @@ ghost use Rattle.serde_json.specs.View.{view};
 ghost use Rattle.request_model.specs.Words.{all_ok, all_some};
 ghost use Rattle.request_model.specs.Documents.{given_value, given_values, value_or_default, all_values};
 ghost use Rattle.document_parts.specs.Walks.{members_in};
-ghost use Rattle.ident_rules.specs.Stops.{Gives};
+ghost use Rattle.ident_rules.specs.StepErrors.{Gives};
 ghost use Rattle.resource_reader.specs.Fields.{is_field_name, fields_in};
 
 use crate::parts::object_at;
 use crate::refusals::refuse_in;
 use document_parts::{member_pointer, read_value};
 use error_objects::{Code, Refusal};
-use ident_rules::{List, NoMemory, Stop};
+use ident_rules::{List, NoMemory, StepError};
 use json_forms::member;
 use resource_schema::{AttrValue, Attribute, Schema};
 use serde_json::{Map, Value};
@@ -41,7 +41,7 @@ fn read_given_value(
     group: &str,
     name: &str,
     value: &Value,
-) -> Result<(u32, AttrValue), Stop<Refusal>>
+) -> Result<(u32, AttrValue), StepError<Refusal>>
     ensures { Gives result (given_value schema.now kind group.now (name.now, view value.now)) }
 {
     let Some(number) = schema.attribute_of(kind, name) else {
@@ -63,7 +63,7 @@ fn read_attributes(
     kind: u32,
     group: &str,
     members: &Map<String, Value>,
-) -> Result<List<(u32, AttrValue)>, Stop<Refusal>>
+) -> Result<List<(u32, AttrValue)>, StepError<Refusal>>
     ensures { Gives result (all_ok (map (given_value schema.now kind group.now) (fields_in (members_in members.now)))) }
 {
     let mut values = Vec::new(alloc);
@@ -86,7 +86,7 @@ pub fn read_given_values(
     kind: u32,
     at: &str,
     value: &Value,
-) -> Result<List<(u32, AttrValue)>, Stop<Refusal>>
+) -> Result<List<(u32, AttrValue)>, StepError<Refusal>>
     ensures { Gives result (given_values schema.now kind at.now (view value.now)) }
 {
     match member(value, "attributes") {

@@ -1,12 +1,14 @@
 -- Schemas that keep the rules, and schemas that break one.
 use Rattle.std.specs.Prelude.{◌≡◌, ℕ, pos, negsuc, true, false, List, [], ◌∷◌, codes, Some, None, refl}
+use Rattle.std.specs.Str.{is_utf8, chars}
+use lib.Utf8.{encode}
 use Rattle.resource_schema.specs.declared.kinds.Kind.{Kind}
 use Rattle.resource_schema.specs.declared.kinds.Attribute.{Attribute}
 use Rattle.resource_schema.specs.declared.kinds.Relationship.{Relationship}
 use Rattle.resource_schema.specs.declared.values.Form.TheVariants as form
 use Rattle.resource_schema.specs.declared.values.AttrValue.TheVariants as value
 use Rattle.resource_schema.specs.Forms.{has_form}
-use Rattle.resource_schema.specs.Kinds.{notes, number_of_kind, attribute_of, is_field, target_of, is_many, has_client_ids, kind_name}
+use Rattle.resource_schema.specs.Kinds.{to_one, to_many, notes, number_of_kind, attribute_of, is_field, target_of, is_many, has_client_ids, kind_name}
 use Rattle.resource_schema.specs.SchemaRules.{is_schema, is_field_name}
 
 -- the schema of a blog: articles, comments and people
@@ -18,13 +20,13 @@ blog =
       attributes = record { name = codes "draft"; form = form.Bool; nullable = true; default = None }
           ∷ record { name = codes "title"; form = form.Text; nullable = false; default = None }
           ∷ record { name = codes "views"; form = form.Int; nullable = false; default = Some (value.Int (pos 0)) } ∷ [];
-      relationships = record { name = codes "author"; many = false; target = 2 } ∷ record { name = codes "comments"; many = true; target = 1 } ∷ [];
+      relationships = to_one (codes "author") 2 ∷ to_many (codes "comments") 1 ∷ [];
     }
     ∷ record {
       name = codes "comments";
       client_ids = false;
       attributes = record { name = codes "text"; form = form.Text; nullable = false; default = None } ∷ [];
-      relationships = record { name = codes "author"; many = false; target = 2 } ∷ [];
+      relationships = to_one (codes "author") 2 ∷ [];
     }
     ∷ record {
       name = codes "people";
@@ -48,7 +50,7 @@ as_attributes (n ∷ ns) = record { name = n; form = form.Int; nullable = false;
 
 abbrev as_relationships : ℕ → List (List ℕ) → List Relationship
 as_relationships target [] = []
-as_relationships target (n ∷ ns) = record { name = n; many = false; target = target } ∷ as_relationships target ns
+as_relationships target (n ∷ ns) = to_one n target ∷ as_relationships target ns
 
 -- one type of this name, with these attributes, and relationships of these names to the type of that number
 abbrev one : List ℕ → List (List ℕ) → List (List ℕ) → ℕ → List Kind
@@ -122,3 +124,30 @@ null_only_where_nullable = refl
 
 a_text_is_no_integer : has_form form.Int true (value.Text (codes "1")) ≡ false
 a_text_is_no_integer = refl
+
+a_text_of_bytes_past_ascii : has_form form.Text false (value.Text (195 ∷ 169 ∷ [])) ≡ true
+unfolding is_utf8 chars encode
+a_text_of_bytes_past_ascii = refl
+
+-- one byte of the two is missing
+a_text_is_utf8 : has_form form.Text false (value.Text (195 ∷ [])) ≡ false
+unfolding is_utf8 chars encode
+a_text_is_utf8 = refl
+
+-- `text` of these notes has the default
+abbrev notes_by_default : List ℕ → List Kind
+notes_by_default text =
+    record {
+      name = codes "notes";
+      client_ids = false;
+      attributes = record { name = codes "text"; form = form.Text; nullable = false; default = Some (value.Text text) } ∷ [];
+      relationships = [];
+    } ∷ []
+
+a_default_is_a_value : is_schema (notes_by_default (codes "none")) ≡ true
+unfolding is_utf8 chars encode
+a_default_is_a_value = refl
+
+a_default_is_utf8 : is_schema (notes_by_default (255 ∷ [])) ≡ false
+unfolding is_utf8 chars encode
+a_default_is_utf8 = refl

@@ -1,6 +1,8 @@
 -- What values an attribute may have.
-use Rattle.std.specs.Prelude.{ℕ, ℤ, pos, negsuc, ◌^◌, Bool, true, false, IsTrue, nat_lt, nat_le, length}
+use Rattle.std.specs.Prelude.{ℤ, pos, negsuc, ◌^◌, ◌&&◌, Bool, true, false, IsTrue, nat_lt, nat_le, length}
+use Rattle.std.specs.Str.{is_utf8}
 use Rattle.resource_schema.specs.declared.kinds.Attribute.{Attribute}
+use Rattle.resource_schema.specs.declared.values.TheConstants.{TEXT_LIMIT}
 use Rattle.resource_schema.specs.declared.values.Form.{Form}
 use Rattle.resource_schema.specs.declared.values.Form.TheVariants as form
 use Rattle.resource_schema.specs.declared.values.AttrValue.{AttrValue}
@@ -11,14 +13,10 @@ abbrev pub is_i64 : ℤ → Bool
 is_i64 (pos n) = nat_lt n (2 ^ 63)
 is_i64 (negsuc n) = nat_lt n (2 ^ 63)
 
--- the most bytes of a text attribute
-abbrev pub text_limit : ℕ
-text_limit = 65536
-
--- an integer has the form Int, and so on
+-- an integer has the form Int, and so on; a text is UTF-8 of at most `TEXT_LIMIT` bytes
 abbrev pub is_of : Form → AttrValue → Bool
 is_of form.Int (value.Int z) = is_i64 z
-is_of form.Text (value.Text t) = nat_le (length t) text_limit
+is_of form.Text (value.Text t) = nat_le (length t) TEXT_LIMIT && is_utf8 t
 is_of form.Bool (value.Bool b) = true
 is_of f v = false
 

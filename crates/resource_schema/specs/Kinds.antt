@@ -1,5 +1,5 @@
 -- Types, attributes and relationships by name and by number.
-use Rattle.std.specs.Prelude.{ℕ, Bool, false, List, [], ◌∷◌, codes, Option, None, slice_get, is_some, ◌||◌}
+use Rattle.std.specs.Prelude.{ℕ, Bool, true, false, List, [], ◌∷◌, codes, Option, None, slice_get, is_some, ◌||◌}
 use Rattle.std.specs.Option.{option_map_or}
 use Rattle.std.specs.List.{position}
 use Rattle.std.specs.Str.{bytes_eq}
@@ -7,6 +7,16 @@ use Rattle.resource_schema.specs.declared.kinds.Kind.{Kind}
 use Rattle.resource_schema.specs.declared.kinds.Attribute.{Attribute}
 use Rattle.resource_schema.specs.declared.kinds.Relationship.{Relationship}
 use Rattle.resource_schema.specs.declared.values.Form.TheVariants as form
+
+-- ---- relationships
+
+-- one that leads to at most one resource of a type
+abbrev pub to_one : List ℕ → ℕ → Relationship
+to_one name target = record { name = name; many = false; target = target }
+
+-- one that leads to any number of resources of a type
+abbrev pub to_many : List ℕ → ℕ → Relationship
+to_many name target = record { name = name; many = true; target = target }
 
 -- ---- numbers of names
 

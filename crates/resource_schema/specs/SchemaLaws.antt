@@ -6,6 +6,7 @@ use Rattle.std.specs.List.{list_all}
 use Rattle.std.proofs.lemmas.Bool.{and_parts}
 use borrow.Author.Tests.{ltb-true, leb-true}
 use Rattle.ident_rules.specs.Name.{is_name}
+use Rattle.resource_schema.specs.declared.kinds.TheConstants.{KIND_LIMIT, ATTRIBUTE_LIMIT, RELATIONSHIP_LIMIT}
 use Rattle.resource_schema.specs.declared.kinds.Kind.{Kind}
 use Rattle.resource_schema.specs.declared.kinds.Relationship.{Relationship}
 use Rattle.resource_schema.specs.Kinds.{attributes_of, relationships_of, target_of}
@@ -20,7 +21,7 @@ passes_at p (y ∷ ys) (suc i) x all e = passes_at p ys i x (and_parts _ _ all).
 -- the parts of the rule of schemas
 pub record SchemaParts (schema : List Kind) : Type 0 where
   pub some : 0 < length schema
-  pub few : length schema ≤ 64
+  pub few : length schema ≤ KIND_LIMIT
   pub rising : are_rising (map (λ k. k.name) schema) ≡ true
   pub kinds : list_all (is_kind (length schema)) schema ≡ true
 
@@ -35,8 +36,8 @@ schema_parts schema rules =
 pub record KindParts (kinds : ℕ) (k : Kind) : Type 0 where
   pub name : is_name k.name ≡ true
   pub free : not (is_one_of reserved_kinds k.name) ≡ true
-  pub few_attributes : length k.attributes ≤ 64
-  pub few_relationships : length k.relationships ≤ 32
+  pub few_attributes : length k.attributes ≤ ATTRIBUTE_LIMIT
+  pub few_relationships : length k.relationships ≤ RELATIONSHIP_LIMIT
   pub rising_attributes : are_rising (map (λ a. a.name) k.attributes) ≡ true
   pub rising_relationships : are_rising (map (λ r. r.name) k.relationships) ≡ true
   pub attributes : list_all is_attribute k.attributes ≡ true
@@ -67,17 +68,17 @@ pub kind_at : (schema : List Kind) (kind : ℕ) (k : Kind) → IsTrue (is_schema
 kind_at schema kind k rules e =
     kind_parts (length schema) k (passes_at (is_kind (length schema)) schema kind k (schema_parts schema rules).kinds e)
 
--- at most 64 attributes of a type, by its number
-pub length-attributes_of-le : (schema : List Kind) (kind : ℕ) → IsTrue (is_schema schema) → length (attributes_of schema kind) ≤ 64
+-- few attributes of a type, by its number
+pub length-attributes_of-le : (schema : List Kind) (kind : ℕ) → IsTrue (is_schema schema) → length (attributes_of schema kind) ≤ ATTRIBUTE_LIMIT
 length-attributes_of-le schema kind rules = by_look (slice_get schema kind) refl where
-  by_look : (o : _) → slice_get schema kind ≡ o → length (option_map_or (λ (k : Kind). k.attributes) o []) ≤ 64
+  by_look : (o : _) → slice_get schema kind ≡ o → length (option_map_or (λ (k : Kind). k.attributes) o []) ≤ ATTRIBUTE_LIMIT
   by_look None e = omega arith
   by_look (Some k) e = (kind_at schema kind k rules e).few_attributes
 
--- at most 32 relationships of a type, by its number
-pub length-relationships_of-le : (schema : List Kind) (kind : ℕ) → IsTrue (is_schema schema) → length (relationships_of schema kind) ≤ 32
+-- few relationships of a type, by its number
+pub length-relationships_of-le : (schema : List Kind) (kind : ℕ) → IsTrue (is_schema schema) → length (relationships_of schema kind) ≤ RELATIONSHIP_LIMIT
 length-relationships_of-le schema kind rules = by_look (slice_get schema kind) refl where
-  by_look : (o : _) → slice_get schema kind ≡ o → length (option_map_or (λ (k : Kind). k.relationships) o []) ≤ 32
+  by_look : (o : _) → slice_get schema kind ≡ o → length (option_map_or (λ (k : Kind). k.relationships) o []) ≤ RELATIONSHIP_LIMIT
   by_look None e = omega arith
   by_look (Some k) e = (kind_at schema kind k rules e).few_relationships
 

@@ -6,6 +6,7 @@ use Rattle.std.specs.Ordering.{nat_cmp, is_lt}
 use Rattle.std.specs.Cmp.Lexicographic.{slice_cmp}
 use Rattle.std.specs.Str.{bytes_eq}
 use Rattle.ident_rules.specs.Name.{is_name}
+use Rattle.resource_schema.specs.declared.kinds.TheConstants.{KIND_LIMIT, ATTRIBUTE_LIMIT, RELATIONSHIP_LIMIT}
 use Rattle.resource_schema.specs.declared.kinds.Kind.{Kind}
 use Rattle.resource_schema.specs.declared.kinds.Attribute.{Attribute}
 use Rattle.resource_schema.specs.declared.kinds.Relationship.{Relationship}
@@ -40,17 +41,17 @@ is_attribute a = is_field_name a.name && option_map_or (has_form a.form a.nullab
 abbrev pub is_relationship : ℕ → List (List ℕ) → Relationship → Bool
 is_relationship kinds attributes r = is_field_name r.name && not (is_one_of attributes r.name) && nat_lt r.target kinds
 
--- at most 64 attributes and 32 relationships, in byte order of their names
+-- at most so many attributes and relationships, in byte order of their names
 abbrev pub is_kind : ℕ → Kind → Bool
 is_kind kinds k =
     is_name k.name && not (is_one_of reserved_kinds k.name)
-    && nat_le (length k.attributes) 64 && nat_le (length k.relationships) 32
+    && nat_le (length k.attributes) ATTRIBUTE_LIMIT && nat_le (length k.relationships) RELATIONSHIP_LIMIT
     && are_rising (map (λ a. a.name) k.attributes) && are_rising (map (λ r. r.name) k.relationships)
     && list_all is_attribute k.attributes && list_all (is_relationship kinds (map (λ a. a.name) k.attributes)) k.relationships
 
--- 1 to 64 types, in byte order of their names
+-- 1 to `KIND_LIMIT` types, in byte order of their names
 abbrev pub is_schema : List Kind → Bool
 is_schema schema =
-    nat_lt 0 (length schema) && nat_le (length schema) 64
+    nat_lt 0 (length schema) && nat_le (length schema) KIND_LIMIT
     && are_rising (map (λ k. k.name) schema)
     && list_all (is_kind (length schema)) schema

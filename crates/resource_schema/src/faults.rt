@@ -9,7 +9,8 @@ pub enum Why {
     NotObject,
     /// `empty`: there is no type at all.
     Empty,
-    /// `limit`: there are more than 64 types, or of one type more than 64 attributes or 32 relationships.
+    /// `limit`: there are more types than `KIND_LIMIT`, or of one type more attributes than `ATTRIBUTE_LIMIT` or more
+    /// relationships than `RELATIONSHIP_LIMIT`.
     Limit,
     /// `name`: a type's or a field's name breaks the rule of names.
     BadName,

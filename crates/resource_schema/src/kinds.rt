@@ -1,9 +1,19 @@
 ghost use Rattle.std.specs.Prelude.{◌≡◌, ◌<◌, ◌≤◌, IfOk, IfSome, length};
+ghost use Rattle.resource_schema.specs.declared.kinds.TheConstants.{ATTRIBUTE_LIMIT, RELATIONSHIP_LIMIT};
 ghost use Rattle.resource_schema.specs.Kinds.{number_of_attribute, number_of_relationship};
 
 use crate::{AttrValue, Form};
 use ident_rules::{List, Name, NoMemory};
 use std::alloc::Global;
+
+/// The most types of a schema.
+pub const KIND_LIMIT: usize = 64;
+
+/// The most attributes of a type.
+pub const ATTRIBUTE_LIMIT: usize = 64;
+
+/// The most relationships of a type.
+pub const RELATIONSHIP_LIMIT: usize = 32;
 
 /// A type of resources (JSON:API 1.1, "Resource Objects").
 #[derive(Drop)]
@@ -12,9 +22,9 @@ pub struct Kind {
     pub name: Name,
     /// Whether a client may choose the id of a new resource ("Client-Generated IDs").
     pub client_ids: bool,
-    /// Its attributes, at most 64, in byte order of their names.
+    /// Its attributes, at most `ATTRIBUTE_LIMIT`, in byte order of their names.
     pub attributes: List<Attribute>,
-    /// Its relationships, at most 32, in byte order of their names.
+    /// Its relationships, at most `RELATIONSHIP_LIMIT`, in byte order of their names.
     pub relationships: List<Relationship>,
 }
 
@@ -86,7 +96,7 @@ impl Kind {
 
     /// The number of the attribute of this name, from 0; None exactly where there is none. Takes no memory.
     pub fn attribute(&self, name: &str) -> Option<u32>
-        requires few { length self.now.attributes ≤ 64 }
+        requires few { length self.now.attributes ≤ ATTRIBUTE_LIMIT }
         ensures { result ≡ number_of_attribute self.now.attributes name.now }
     {
         match place_of_attribute(self.attributes.as_slice(), name) {
@@ -97,7 +107,7 @@ impl Kind {
 
     /// The number of the relationship of this name, from 0; None exactly where there is none. Takes no memory.
     pub fn relationship(&self, name: &str) -> Option<u32>
-        requires few { length self.now.relationships ≤ 32 }
+        requires few { length self.now.relationships ≤ RELATIONSHIP_LIMIT }
         ensures { result ≡ number_of_relationship self.now.relationships name.now }
     {
         match place_of_relationship(self.relationships.as_slice(), name) {

@@ -12,7 +12,7 @@ mod tests;
 mod values;
 
 pub use faults::{SchemaFault, Why};
-pub use kinds::{Attribute, Kind, Relationship};
+pub use kinds::{ATTRIBUTE_LIMIT, Attribute, KIND_LIMIT, Kind, RELATIONSHIP_LIMIT, Relationship};
 pub use schema::Schema;
 pub use targets::Target;
-pub use values::{AttrValue, Form, Place, copy_values};
+pub use values::{AttrValue, Form, Place, TEXT_LIMIT, copy_values, same_value, same_values};

@@ -1,4 +1,5 @@
 ghost use Rattle.std.specs.Prelude.{◌≡◌, ◌<◌, ◌≤◌, IfSome, length, option_copied, slice_get};
+ghost use Rattle.resource_schema.specs.declared.kinds.TheConstants.{ATTRIBUTE_LIMIT, RELATIONSHIP_LIMIT};
 ghost use Rattle.resource_schema.specs.Kinds.{attributes_of, relationships_of, kind_name, has_client_ids, attribute_of, relationship_of, target_of, is_many};
 
 use crate::{Attribute, Kind, Relationship, Schema};
@@ -14,7 +15,7 @@ impl Schema {
     /// The type of that number, where there is one. Takes no memory.
     pub fn kind(&self, kind: u32) -> Option<&Kind>
         ensures kind { option_copied result ≡ slice_get self.now kind }
-        ensures few { IfSome result (λ k. (length k.now.attributes ≤ 64) × (length k.now.relationships ≤ 32)) }
+        ensures few { IfSome result (λ k. (length k.now.attributes ≤ ATTRIBUTE_LIMIT) × (length k.now.relationships ≤ RELATIONSHIP_LIMIT)) }
     {
         nth_kind(self.kinds(), kind)
     }
@@ -22,7 +23,7 @@ impl Schema {
     /// The attributes of the type of that number; none where there is no such type. Takes no memory.
     pub fn attributes_of(&self, kind: u32) -> &[Attribute]
         ensures attributes { result.now ≡ attributes_of self.now kind }
-        ensures few { length result.now ≤ 64 }
+        ensures few { length result.now ≤ ATTRIBUTE_LIMIT }
     {
         match self.kind(kind) {
             Some(kind) => kind.attributes.as_slice(),
@@ -33,7 +34,7 @@ impl Schema {
     /// The relationships of the type of that number; none where there is no such type. Takes no memory.
     pub fn relationships_of(&self, kind: u32) -> &[Relationship]
         ensures relationships { result.now ≡ relationships_of self.now kind }
-        ensures few { length result.now ≤ 32 }
+        ensures few { length result.now ≤ RELATIONSHIP_LIMIT }
     {
         match self.kind(kind) {
             Some(kind) => kind.relationships.as_slice(),

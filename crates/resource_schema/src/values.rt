@@ -1,14 +1,17 @@
-ghost use Rattle.std.specs.Prelude.{◌≡◌, IfOk};
+ghost use Rattle.std.specs.Prelude.{◌≡◌, ◌↔◌, IfOk, IsTrue};
 
 use ident_rules::{Id, List, NoMemory, Text};
 use std::alloc::Global;
+
+/// The most bytes of a text attribute.
+pub const TEXT_LIMIT: usize = 65_536;
 
 /// What values an attribute has.
 #[derive(Clone, Copy, Debug, PartialEq, Eq)]
 pub enum Form {
     /// Integers of 64 bits with a sign.
     Int,
-    /// Texts of at most 65,536 bytes.
+    /// Texts, UTF-8, of at most `TEXT_LIMIT` bytes.
     Text,
     /// Truth values.
     Bool,
@@ -59,6 +62,36 @@ pub fn copy_values(alloc: Global, values: &[AttrValue]) -> Result<List<AttrValue
         copies.push(value.copy(alloc)?)?;
     }
     Ok(List::from_vec(copies))
+}
+
+/// Whether two values are equal. Takes no memory.
+pub fn same_value(one: &AttrValue, other: &AttrValue) -> bool
+    ensures { IsTrue result ↔ (one.now ≡ other.now) }
+{
+    match (one, other) {
+        (AttrValue::Null, AttrValue::Null) => true,
+        (AttrValue::Int(x), AttrValue::Int(y)) => x == y,
+        (AttrValue::Text(x), AttrValue::Text(y)) => x.as_str() == y.as_str(),
+        (AttrValue::Bool(x), AttrValue::Bool(y)) => x == y,
+        _ => false,
+    }
+}
+
+/// Whether two lists of values are equal. Takes no memory.
+pub fn same_values(one: &[AttrValue], other: &[AttrValue]) -> bool
+    ensures { IsTrue result ↔ (one.now ≡ other.now) }
+{
+    if one.len() != other.len() {
+        return false;
+    }
+    let mut place = 0;
+    while place < one.len() {
+        if !same_value(&one[place], &other[place]) {
+            return false;
+        }
+        place += 1;
+    }
+    true
 }
 
 impl Place {

@@ -4,6 +4,7 @@ use Rattle.std.specs.declared.cmp.Ordering.TheVariants.{Less, Equal, Greater}
 use Rattle.ident_rules.specs.declared.key.Key.{Key}
 use Rattle.ident_rules.specs.IdOrder.{id_cmp}
 use Rattle.resource_schema.specs.declared.kinds.Kind.{Kind}
+use Rattle.resource_schema.specs.Kinds.{to_one, to_many}
 use Rattle.resource_schema.specs.declared.values.AttrValue.TheVariants as value
 use Rattle.world_cells.specs.declared.rows.Row.{Row}
 use Rattle.world_cells.specs.declared.rows.Link.TheVariants.{One, Many}
@@ -14,6 +15,7 @@ use Rattle.world_cells.specs.declared.spans.Edge.TheVariants as edge
 use Rattle.world_cells.specs.declared.spans.Span.TheVariants as span
 use Rattle.world_cells.specs.declared.sets.ReadSet.{ReadSet}
 use Rattle.world_cells.specs.CellOrder.{cell_key_cmp}
+use Rattle.world_cells.specs.Slots.{slot_of, group_of, group_of_span}
 use Rattle.world_cells.specs.World.{World, empty_world, cell_at, next_id, linked}
 use Rattle.world_cells.specs.Reads.{Cells, in_span, in_part, covers, overlay}
 
@@ -24,7 +26,7 @@ types =
       name = codes "articles";
       client_ids = false;
       attributes = [];
-      relationships = record { name = codes "author"; many = false; target = 2 } ∷ record { name = codes "comments"; many = true; target = 1 } ∷ [];
+      relationships = to_one (codes "author") 2 ∷ to_many (codes "comments") 1 ∷ [];
     }
     ∷ record { name = codes "comments"; client_ids = false; attributes = []; relationships = [] }
     ∷ record { name = codes "people"; client_ids = true; attributes = []; relationships = [] } ∷ []
@@ -125,3 +127,29 @@ writes_lie_over_cells = refl
 
 other_cells_stay : overlay (cell_at types world) (record { key = cell_key.Counter 1; cell = None } ∷ []) (cell_key.Counter 0) ≡ Some (cell.Counter 2)
 other_cells_stay = refl
+
+-- ---- slots and groups
+
+the_slot_of_the_first_counter : slot_of (cell_key.Counter 0) ≡ 3842
+the_slot_of_the_first_counter = refl
+
+the_slot_of_a_row : slot_of (cell_key.Row (at 0 (codes "1"))) ≡ 49
+the_slot_of_a_row = refl
+
+two_rows_may_share_a_slot : slot_of (cell_key.Row (at 2 (codes "ab"))) ≡ slot_of (cell_key.Row (at 2 (codes "bC")))
+two_rows_may_share_a_slot = refl
+
+the_group_of_rows : group_of (cell_key.Row (at 2 (codes "ann"))) ≡ 8
+the_group_of_rows = refl
+
+ways_back_are_grouped_by_what_they_lead_to : group_of (cell_key.Back (at 2 (codes "ann")) (at 0 (codes "1")) 0) ≡ 9
+ways_back_are_grouped_by_what_they_lead_to = refl
+
+the_group_of_a_counter : group_of (cell_key.Counter 2) ≡ 10
+the_group_of_a_counter = refl
+
+types_past_sixty_four_share_groups : group_of (cell_key.Counter 66) ≡ 10
+types_past_sixty_four_share_groups = refl
+
+the_group_of_a_span_of_ways_back : group_of_span (span.Backs (at 2 (codes "ann")) None) ≡ 9
+the_group_of_a_span_of_ways_back = refl

@@ -1,5 +1,6 @@
 -- Laws of cells: keys that tie, stores under writes, and what a span's first and last cell say of worlds that agree on it.
 use Rattle.std.proofs.Common.{◌≡◌, ℕ, List, Bool, true, false, refl, sym, ap, ◌∙◌, Some, None, Option}
+use Rattle.std.proofs.lemmas.Bool.{and_from}
 use Rattle.std.specs.Prelude.{cond, option_map, unwrap_or, IsTrue, not, ◌&&◌}
 use Rattle.std.specs.declared.cmp.Ordering.{Ordering}
 use Rattle.std.specs.declared.cmp.Ordering.TheVariants.{Less, Equal, Greater}
@@ -7,6 +8,7 @@ use Rattle.std.specs.Ordering.{is_eq, is_lt, ordering_then, ordering_reverse, na
 use Rattle.std.specs.Cmp.{tied_itself}
 use Rattle.std.specs.FinMap.Entries.{find, put, find-put}
 use Rattle.ident_rules.specs.declared.key.Key.{Key}
+use Rattle.ident_rules.specs.IdOrder.{is_equal, then_equal}
 use Rattle.ident_rules.specs.Key.{key_cmp, same_key}
 use Rattle.world_cells.specs.declared.keys.CellKey.{CellKey}
 use Rattle.world_cells.specs.declared.keys.CellKey.TheVariants as cell_key
@@ -15,15 +17,14 @@ use Rattle.world_cells.specs.declared.spans.Span.{Span}
 use Rattle.world_cells.specs.declared.sets.Part.{Part}
 use Rattle.world_cells.specs.declared.sets.ReadSet.{ReadSet}
 use Rattle.world_cells.specs.declared.sets.Written.{Written}
-use Rattle.world_cells.specs.CellOrder.{cell_key_cmp, cell_key_cmp_total, same_cell_key}
+use Rattle.world_cells.specs.CellOrder.{cell_key_cmp, cell_key_cmp_total, cell_key_cmp-IsAntisymmetric, same_cell_key}
 use Rattle.world_cells.specs.Reads.{Cells, covers, in_part, AgreeOn, entries_of, overlay, Leads, IsFirstIn, IsLastIn}
 
 -- ---- keys that tie
 
-then_equal : (o : Ordering) → is_eq (ordering_then o Equal) ≡ is_eq o
-then_equal Less = refl
-then_equal Equal = refl
-then_equal Greater = refl
+-- cell keys that tie are equal
+pub cell_key_is : (j k : CellKey) → same_cell_key j k ≡ true → j ≡ k
+cell_key_is j k e = cell_key_cmp-IsAntisymmetric j k (is_equal _ e)
 
 -- a row's cell key ties with another's as their keys do
 pub same_row_cell : (q r : Key) → same_cell_key (cell_key.Row q) (cell_key.Row r) ≡ same_key q r
@@ -69,10 +70,6 @@ looks_alike f g h reads writes k covered agree leads = ap (unwrap_or (find cell_
 
 -- ---- spans
 
-and_true : (a b : Bool) → a ≡ true → b ≡ true → (a && b) ≡ true
-and_true true b e h = h
-and_true false b e h = cc
-
 not_less : (o : Ordering) → is_lt o ≡ true → not (is_lt (ordering_reverse o)) ≡ true
 not_less Less e = refl
 not_less Equal e = cc
@@ -97,11 +94,11 @@ pub first_alike : (f g h : Cells) (reads : ReadSet) (writes : List Written) (spa
     → ((j : CellKey) → IsTrue (in_part (part_to span found) j) → IsTrue (covers reads j))
     → AgreeOn reads f g → Leads f writes h → IsFirstIn (overlay g writes) span found → IsFirstIn h span found
 first_alike f g h reads writes span None read agree leads none = λ j inside.
-    sym (looks_alike f g h reads writes j (read j (and_true _ _ inside refl)) agree leads) ∙ none j inside
+    sym (looks_alike f g h reads writes j (read j (and_from _ _ inside refl)) agree leads) ∙ none j inside
 first_alike f g h reads writes span (Some (k, c)) read agree leads first = (
   first.0,
-  sym (looks_alike f g h reads writes k (read k (and_true _ _ first.0 (not_less_itself k))) agree leads) ∙ first.1,
-  λ j inside below. sym (looks_alike f g h reads writes j (read j (and_true _ _ inside (not_less_back j k below))) agree leads) ∙ first.2 j inside below,
+  sym (looks_alike f g h reads writes k (read k (and_from _ _ first.0 (not_less_itself k))) agree leads) ∙ first.1,
+  λ j inside below. sym (looks_alike f g h reads writes j (read j (and_from _ _ inside (not_less_back j k below))) agree leads) ∙ first.2 j inside below,
 )
 
 -- what was found last is the last in each world that agrees on the part
@@ -109,9 +106,9 @@ pub last_alike : (f g h : Cells) (reads : ReadSet) (writes : List Written) (span
     → ((j : CellKey) → IsTrue (in_part (part_from span found) j) → IsTrue (covers reads j))
     → AgreeOn reads f g → Leads f writes h → IsLastIn (overlay g writes) span found → IsLastIn h span found
 last_alike f g h reads writes span None read agree leads none = λ j inside.
-    sym (looks_alike f g h reads writes j (read j (and_true _ _ inside refl)) agree leads) ∙ none j inside
+    sym (looks_alike f g h reads writes j (read j (and_from _ _ inside refl)) agree leads) ∙ none j inside
 last_alike f g h reads writes span (Some (k, c)) read agree leads last = (
   last.0,
-  sym (looks_alike f g h reads writes k (read k (and_true _ _ last.0 (not_less_itself k))) agree leads) ∙ last.1,
-  λ j inside above. sym (looks_alike f g h reads writes j (read j (and_true _ _ inside (not_less_back k j above))) agree leads) ∙ last.2 j inside above,
+  sym (looks_alike f g h reads writes k (read k (and_from _ _ last.0 (not_less_itself k))) agree leads) ∙ last.1,
+  λ j inside above. sym (looks_alike f g h reads writes j (read j (and_from _ _ inside (not_less_back k j above))) agree leads) ∙ last.2 j inside above,
 )

@@ -30,14 +30,14 @@ second_key (Row k) = no_key
 second_key (Back to from rel) = from
 second_key (Counter n) = no_key
 
-abbrev pub last_number : CellKey → ℕ
-last_number (Row k) = 0
-last_number (Back to from rel) = rel
-last_number (Counter n) = n
+abbrev pub last_field : CellKey → ℕ
+last_field (Row k) = 0
+last_field (Back to from rel) = rel
+last_field (Counter n) = n
 
 -- by variant, and then by the fields as they stand
 abbrev pub cell_key_cmp : CellKey → CellKey → Ordering
-cell_key_cmp = then_cmp (on variant_of nat_cmp) (then_cmp (on first_key key_cmp) (then_cmp (on second_key key_cmp) (on last_number nat_cmp)))
+cell_key_cmp = then_cmp (on variant_of nat_cmp) (then_cmp (on first_key key_cmp) (then_cmp (on second_key key_cmp) (on last_field nat_cmp)))
 
 abbrev pub same_cell_key : CellKey → CellKey → Bool
 same_cell_key = eq_by_cmp cell_key_cmp
@@ -45,10 +45,10 @@ same_cell_key = eq_by_cmp cell_key_cmp
 pub cell_key_cmp_total : IsTotalOrder cell_key_cmp
 cell_key_cmp_total =
     then_total (on_total variant_of nat_cmp_total)
-    (then_total (on_total first_key key_cmp_total) (then_total (on_total second_key key_cmp_total) (on_total last_number nat_cmp_total)))
+    (then_total (on_total first_key key_cmp_total) (then_total (on_total second_key key_cmp_total) (on_total last_field nat_cmp_total)))
 
 -- equal parts make equal keys
-same_parts : (x y : CellKey) → variant_of x ≡ variant_of y → first_key x ≡ first_key y → second_key x ≡ second_key y → last_number x ≡ last_number y → x ≡ y
+same_parts : (x y : CellKey) → variant_of x ≡ variant_of y → first_key x ≡ first_key y → second_key x ≡ second_key y → last_field x ≡ last_field y → x ≡ y
 same_parts (Row k) (Row j) v f s n = ap Row f
 same_parts (Row k) (Back to from rel) v f s n = cc v
 same_parts (Row k) (Counter m) v f s n = cc v
@@ -68,4 +68,4 @@ cell_key_cmp-IsAntisymmetric x y e =
     (nat_cmp-IsAntisymmetric (variant_of x) (variant_of y) (first_equal _ _ e))
     (key_cmp-IsAntisymmetric (first_key x) (first_key y) (first_equal _ _ rest))
     (key_cmp-IsAntisymmetric (second_key x) (second_key y) (first_equal _ _ last))
-    (nat_cmp-IsAntisymmetric (last_number x) (last_number y) (second_equal _ _ last))
+    (nat_cmp-IsAntisymmetric (last_field x) (last_field y) (second_equal _ _ last))

@@ -3,4 +3,5 @@ pub mod CellOrder
 pub mod Decided
 pub mod Lists
 pub mod Reads
+pub mod Slots
 pub mod World

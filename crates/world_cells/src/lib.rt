@@ -5,13 +5,17 @@
 mod cells;
 mod keys;
 mod rows;
+mod same;
 mod sets;
+mod slots;
 mod spans;
 #[cfg(test)]
 mod tests;
 
-pub use cells::Cell;
+pub use cells::{Cell, LAST_NEXT_ID};
 pub use keys::CellKey;
-pub use rows::{Link, Row};
+pub use rows::{LINK_LIMIT, Link, Row};
+pub use same::{same_cell, same_link, same_row};
 pub use sets::{KeySet, Part, ReadSet, WriteSet, Written};
+pub use slots::{GROUPS, KIND_GROUPS, SLOTS};
 pub use spans::{Edge, Span};

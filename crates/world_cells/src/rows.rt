@@ -4,12 +4,15 @@ use ident_rules::{Id, Key, List, NoMemory};
 use resource_schema::{AttrValue, copy_values};
 use std::alloc::Global;
 
+/// The most resources that a to-many relationship leads to.
+pub const LINK_LIMIT: usize = 1_000;
+
 /// What one relationship of a resource leads to. The ids are of the relationship's target type.
 #[derive(Drop)]
 pub enum Link {
     /// Of a to-one relationship: one resource or none.
     One(Option<Id>),
-    /// Of a to-many relationship: distinct resources in order, at most 1,000.
+    /// Of a to-many relationship: distinct resources in order, at most `LINK_LIMIT`.
     Many(List<Id>),
 }
 

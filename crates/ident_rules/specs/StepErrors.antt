@@ -1,19 +1,19 @@
 -- What a step answers that may stop, against a definition that knows no want of memory.
 use Rattle.std.specs.Prelude.{◌≡◌, ⊤, Result, Ok, Err}
-use Rattle.ident_rules.specs.declared.stops.Stop.{Stop}
-use Rattle.ident_rules.specs.declared.stops.Stop.TheVariants.{Because, NoMemory}
+use Rattle.ident_rules.specs.declared.step_errors.StepError.{StepError}
+use Rattle.ident_rules.specs.declared.step_errors.StepError.TheVariants.{Because, NoMemory}
 
 -- a stop for this reason
-abbrev pub IsStop : {R : Type 0} → Stop R → R → Type 0
+abbrev pub IsStop : {R : Type 0} → StepError R → R → Type 0
 IsStop (Because r) reason = r ≡ reason
 IsStop NoMemory reason = ⊤
 
 -- a stop by what the definition says
-abbrev pub Stops : {T R : Type 0} → Stop R → Result T R → Type 0
+abbrev pub Stops : {T R : Type 0} → StepError R → Result T R → Type 0
 Stops (Because r) d = d ≡ Err r
 Stops NoMemory d = ⊤
 
 -- what the definition says
-abbrev pub Gives : {T R : Type 0} → Result T (Stop R) → Result T R → Type 0
+abbrev pub Gives : {T R : Type 0} → Result T (StepError R) → Result T R → Type 0
 Gives (Ok x) d = d ≡ Ok x
 Gives (Err stop) d = Stops stop d

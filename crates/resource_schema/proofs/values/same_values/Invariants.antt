@@ -1,0 +1,9 @@
+use Rattle.std.proofs.Common.{◌≡◌, ◌≤◌, ◌-◌, length, take}
+use Rattle.resource_schema.proofs.values.same_values.Given as goal
+
+-- the values before the place are equal
+abbrev pub invariant-loop-place : goal.invariant-loop-place
+invariant-loop-place l = record { within : l.place ≤ length l.one; same : take l.place l.one ≡ take l.place l.other }
+
+abbrev pub decreases-loop-place : goal.decreases-loop-place
+decreases-loop-place l = length l.one - l.place
