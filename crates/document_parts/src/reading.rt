@@ -6,28 +6,26 @@ ghost use Rattle.request_model.specs.Values.{value_from};
 
 use ident_rules::{NoMemory, Text};
 use json_forms::int_of;
-use resource_schema::{AttrValue, Form};
+use resource_schema::{AttrValue, Form, TEXT_LIMIT};
 use serde_json::Value;
 use std::alloc::Global;
-
-/// The most bytes of a text.
-const TEXT_LIMIT: usize = 65_536;
 
 /// The text, where the attribute is one and the text is not too long.
 fn text_value(alloc: Global, form: Form, text: &str) -> Result<Option<AttrValue>, NoMemory>
     ensures { IfOk result (λ o. o ≡ (if is_of form (value.Text text.now) then Some (value.Text text.now) else None)) }
 {
-    if form == Form::Text && text.len() <= TEXT_LIMIT {
-        Ok(Some(AttrValue::Text(Text::from_str(alloc, text)?)))
-    } else {
-        Ok(None)
+    match form {
+        Form::Text if text.len() <= TEXT_LIMIT => {
+            Ok(Some(AttrValue::Text(Text::from_str(alloc, text)?)))
+        }
+        _ => Ok(None),
     }
 }
 
 /// The value of an attribute of that form, which may be null where `nullable` says so, that stands in a document (JSON:API
 /// 1.1, "Attributes").
 ///
-/// An integer is a number that an `i64` holds, without fraction and exponent; a text has at most 65,536 bytes. `None`
+/// An integer is a number that an `i64` holds, without fraction and exponent; a text has at most `TEXT_LIMIT` bytes. `None`
 /// exactly where the value is not of the form. The one error is want of memory.
 pub fn read_value(
     alloc: Global,

@@ -75,10 +75,6 @@ bad_page_size : bare code.BadPageSize ≡ codes "{\"errors\":[{\"code\":\"bad-pa
 unfolding digits escape_byte
 bad_page_size = refl
 
-range_unsupported : bare code.RangeUnsupported ≡ codes "{\"errors\":[{\"code\":\"range-unsupported\",\"status\":\"400\",\"title\":\"Range pagination not supported\"}]}"
-unfolding digits escape_byte
-range_unsupported = refl
-
 bad_cursor : bare code.BadCursor ≡ codes "{\"errors\":[{\"code\":\"bad-cursor\",\"status\":\"400\",\"title\":\"Malformed cursor\"}]}"
 unfolding digits escape_byte
 bad_cursor = refl

@@ -9,7 +9,6 @@ pub data Source : Type 0 where
   some_pointer : Source
   pointer_in_list : Source
   some_parameter : Source
-  parameter : List ℕ → Source
   some_header : Source
   header : List ℕ → Source
 
@@ -41,7 +40,6 @@ told code.BadInclude = tell 400 (codes "bad-include") (codes "Unsupported includ
 told code.BadFields = tell 400 (codes "bad-fields") (codes "Unsupported fields") some_parameter
 told code.BadSort = tell 400 (codes "bad-sort") (codes "Unsupported sort") some_parameter
 told code.BadPageSize = tell 400 (codes "bad-page-size") (codes "Unsupported page size") some_parameter
-told code.RangeUnsupported = tell 400 (codes "range-unsupported") (codes "Range pagination not supported") (parameter (codes "page[before]"))
 told code.BadCursor = tell 400 (codes "bad-cursor") (codes "Malformed cursor") some_parameter
 told code.BadJson = tell 400 (codes "bad-json") (codes "Malformed JSON") no_source
 told code.BadDocument = tell 400 (codes "bad-document") (codes "Malformed document") some_pointer

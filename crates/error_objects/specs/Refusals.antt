@@ -6,7 +6,7 @@ use Rattle.error_objects.specs.declared.refusals.Blame.TheVariants as blame
 use Rattle.error_objects.specs.declared.refusals.Refusal.{Refusal}
 use Rattle.error_objects.specs.declared.refusals.Read.{Read}
 use Rattle.error_objects.specs.declared.refusals.Read.TheVariants as read
-use Rattle.error_objects.specs.Codes.{Source, no_source, some_pointer, pointer_in_list, some_parameter, parameter, some_header, header, told}
+use Rattle.error_objects.specs.Codes.{Source, no_source, some_pointer, pointer_in_list, some_parameter, some_header, header, told}
 
 -- ---- a refusal that names nothing, and those that name a place (JSON:API 1.1, "Error Objects")
 
@@ -43,7 +43,6 @@ IsSource in_list some_pointer b = IsPointer b
 IsSource true pointer_in_list b = IsPointer b
 IsSource false pointer_in_list b = b ≡ blame.Nothing
 IsSource in_list some_parameter b = IsParameter b
-IsSource in_list (parameter name) b = b ≡ blame.Parameter name
 IsSource in_list some_header b = IsHeader b
 IsSource in_list (header name) b = b ≡ blame.Header name
 

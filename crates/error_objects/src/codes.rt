@@ -37,15 +37,13 @@ pub enum Code {
     BadSort,
     /// A page size out of range (Cursor Pagination profile).
     BadPageSize,
-    /// Both cursors in one request (Cursor Pagination profile, "Range Pagination Not Supported Error").
-    RangeUnsupported,
     /// A text that is no cursor of this order (Cursor Pagination profile, "Invalid Parameter Value Error").
     BadCursor,
     /// The content is no JSON text (RFC 8259).
     BadJson,
     /// The content is JSON and no document of the kind that is asked for (JSON:API 1.1, "Document Structure").
     BadDocument,
-    /// A list of more than 1,000 operations.
+    /// A list of more operations than are served.
     TooManyOperations,
     /// The type of a resource is not that of the target (JSON:API 1.1, "409 Conflict").
     TypeMismatch,
@@ -75,7 +73,7 @@ pub enum Code {
     IdsEnded,
     /// Linkage to a resource that does not exist.
     RelatedNotFound,
-    /// A to-many relationship of more than 1,000 members.
+    /// A to-many relationship of more members than are served.
     TooManyMembers,
     /// A resource that another one still links to.
     StillReferenced,
@@ -105,7 +103,6 @@ impl Code {
             Code::BadFields => 400,
             Code::BadSort => 400,
             Code::BadPageSize => 400,
-            Code::RangeUnsupported => 400,
             Code::BadCursor => 400,
             Code::BadJson => 400,
             Code::BadDocument => 400,
@@ -151,7 +148,6 @@ impl Code {
             Code::BadFields => "bad-fields",
             Code::BadSort => "bad-sort",
             Code::BadPageSize => "bad-page-size",
-            Code::RangeUnsupported => "range-unsupported",
             Code::BadCursor => "bad-cursor",
             Code::BadJson => "bad-json",
             Code::BadDocument => "bad-document",
@@ -197,7 +193,6 @@ impl Code {
             Code::BadFields => "Unsupported fields",
             Code::BadSort => "Unsupported sort",
             Code::BadPageSize => "Unsupported page size",
-            Code::RangeUnsupported => "Range pagination not supported",
             Code::BadCursor => "Malformed cursor",
             Code::BadJson => "Malformed JSON",
             Code::BadDocument => "Malformed document",

@@ -1,5 +1,6 @@
 -- The schema of the examples: articles, comments and people.
 use Rattle.std.specs.Prelude.{ℕ, List, [], ◌∷◌, true, false, Some, None, codes, pos}
+use Rattle.resource_schema.specs.Kinds.{to_one, to_many}
 use Rattle.resource_schema.specs.declared.schema.Schema.{Schema}
 use Rattle.resource_schema.specs.declared.kinds.Attribute.{Attribute}
 use Rattle.resource_schema.specs.declared.values.Form.TheVariants as form
@@ -14,9 +15,9 @@ blog =
       name = codes "articles";
       client_ids = false;
       attributes = record { name = codes "draft"; form = form.Bool; nullable = true; default = None } ∷ text_attribute (codes "title") ∷ record { name = codes "views"; form = form.Int; nullable = false; default = Some (value.Int (pos 0)) } ∷ [];
-      relationships = record { name = codes "author"; many = false; target = 2 } ∷ record { name = codes "comments"; many = true; target = 1 } ∷ [];
+      relationships = to_one (codes "author") 2 ∷ to_many (codes "comments") 1 ∷ [];
     }
-    ∷ record { name = codes "comments"; client_ids = false; attributes = text_attribute (codes "text") ∷ []; relationships = record { name = codes "author"; many = false; target = 2 } ∷ [] }
+    ∷ record { name = codes "comments"; client_ids = false; attributes = text_attribute (codes "text") ∷ []; relationships = to_one (codes "author") 2 ∷ [] }
     ∷ record { name = codes "people"; client_ids = true; attributes = text_attribute (codes "name") ∷ []; relationships = [] }
     ∷ []
 

@@ -1,7 +1,9 @@
 -- The cursor of a place is read back as the place.
 use Rattle.std.specs.Prelude.{ℕ, ℤ, pos, negsuc, ◌<◌, ◌^◌, ◌++◌, Bool, true, nat_lt, IsUtf8, List, [], ◌∷◌, map, suc, max, Option, Some, Ok, option_and_then, get_or}
 use Rattle.std.specs.Result.{result_ok}
-use Rattle.std.specs.List.{AllZip, AllByRecursion}
+use Rattle.std.specs.List.{AllZip}
+use Rattle.std.proofs.lemmas.Bool.{and_parts}
+use Rattle.std.proofs.lemmas.Str.{IsUtf8-from_is_utf8}
 use Rattle.std.specs.Str.{bytes_eq}
 use Rattle.std.proofs.Common.{◌≡◌, refl, ap, ◌∙◌, arith}
 use Rattle.std.proofs.lemmas.Bool.Decides.{nat_tests}
@@ -25,7 +27,6 @@ use Rattle.resource_schema.specs.declared.values.Place.{Place}
 use Rattle.resource_schema.specs.Forms.{has_form, is_i64}
 use Rattle.request_model.specs.Words.{some_if}
 use Rattle.request_model.specs.Values.{integer, value_data, plain_value, value_from}
-use Rattle.request_model.specs.Cursors as cursors
 use Rattle.request_model.specs.Cursors.{cursor_text, IsPlaceOf, place_from, place_of_cursor}
 use Rattle.request_model.specs.Options as option
 use Rattle.request_model.specs.ListLaws.{items_list-items_of}
@@ -57,11 +58,16 @@ int-utf8 : (z : ℤ) → HasUtf8 (integer z)
 int-utf8 (pos n) = tt
 int-utf8 (negsuc n) = tt
 
-data-utf8 : (v : AttrValue) → cursors.HasUtf8 v → HasUtf8 (value_data v)
-data-utf8 value.Null u = tt
-data-utf8 (value.Int z) u = int-utf8 z
-data-utf8 (value.Text t) u = u
-data-utf8 (value.Bool b) u = tt
+text_fits : (f : Form) (nullable : Bool) (t : List ℕ) → has_form f nullable (value.Text t) ≡ true → IsUtf8 t
+text_fits form.Int nullable t e = cc e
+text_fits form.Text nullable t e = IsUtf8-from_is_utf8 t (and_parts _ _ e).1
+text_fits form.Bool nullable t e = cc e
+
+data-utf8 : (f : Form) (nullable : Bool) (v : AttrValue) → has_form f nullable v ≡ true → HasUtf8 (value_data v)
+data-utf8 f nullable value.Null e = tt
+data-utf8 f nullable (value.Int z) e = int-utf8 z
+data-utf8 f nullable (value.Text t) e = text_fits f nullable t e
+data-utf8 f nullable (value.Bool b) e = tt
 
 int-flat : (z : ℤ) → depth (integer z) ≡ 0
 int-flat (pos n) = refl
@@ -99,9 +105,11 @@ place-plain [] (v ∷ values) id z = absurd z
 place-plain (f ∷ forms) [] id z = absurd z
 place-plain (f ∷ forms) (v ∷ values) id z = (data-plain f.0 f.1 v z.0, place-plain forms values id z.1)
 
-place-utf8 : (values : List AttrValue) (id : List ℕ) → AllByRecursion cursors.HasUtf8 values → IsUtf8 id → HaveUtf8 (items_of (data_of values id))
-place-utf8 [] id a u = (u, tt)
-place-utf8 (v ∷ values) id a u = (data-utf8 v a.0, place-utf8 values id a.1 u)
+place-utf8 : (forms : List (Form × Bool)) (values : List AttrValue) (id : List ℕ) → AllZip (λ f v. has_form f.0 f.1 v ≡ true) forms values → IsUtf8 id → HaveUtf8 (items_of (data_of values id))
+place-utf8 [] [] id z u = (u, tt)
+place-utf8 [] (v ∷ values) id z u = absurd z
+place-utf8 (f ∷ forms) [] id z u = absurd z
+place-utf8 (f ∷ forms) (v ∷ values) id z u = (data-utf8 f.0 f.1 v z.0, place-utf8 forms values id z.1 u)
 
 place-flat : (values : List AttrValue) (id : List ℕ) → items_depth (items_of (data_of values id)) ≡ 0
 place-flat [] id = refl
@@ -135,13 +143,13 @@ AreBytes = (bytes : List ℕ) → IsUtf8 bytes → (i : ℕ) → get_or bytes i 
 strict : IsConsistent url_safe_no_pad
 strict = refl
 
-pub cursor-back : IsReadBack → IsWrittenInUtf8 → AreBytes → (forms : List (Form × Bool)) (place : Place) → IsPlaceOf forms place → AllByRecursion cursors.HasUtf8 place.values
+pub cursor-back : IsReadBack → IsWrittenInUtf8 → AreBytes → (forms : List (Form × Bool)) (place : Place) → IsPlaceOf forms place
     → place_of_cursor forms (cursor_text place) ≡ Some place
-cursor-back back utf8 bytes forms place fits texts =
+cursor-back back utf8 bytes forms place fits =
     let ds = data_of place.values place.id in
     let d = array (items_of (data_of place.values place.id)) in
     let plain : IsPlain d = place-plain forms place.values place.id fits.0 in
-    let coded : HasUtf8 d = place-utf8 place.values place.id texts (IsUtf8-is_id place.id fits.1) in
+    let coded : HasUtf8 d = place-utf8 forms place.values place.id fits.0 (IsUtf8-is_id place.id fits.1) in
     let text = compact_text (array (items_of (data_of place.values place.id))) in
     let decoded : decode_of url_safe_no_pad (cursor_text place) ≡ Ok text = decode_of-encode_of url_safe_no_pad text strict (λ i. bytes text (utf8 d plain coded) i) in
     let read : json_of text ≡ Some d = back d plain coded (shallow (items_depth (items_of ds)) (place-flat place.values place.id)) in

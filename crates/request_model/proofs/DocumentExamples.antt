@@ -13,7 +13,7 @@ use Rattle.error_objects.specs.Refusals.{at_pointer}
 use Rattle.serde_json.specs.Data.{string}
 use Rattle.task_forms.specs.declared.operations.Member.{Member}
 use Rattle.json_forms.specs.Json.{json_of}
-use Rattle.request_model.specs.Documents.{create_of, update_of, linkage, local_id, is_plain}
+use Rattle.request_model.specs.Documents.{create_of, update_of, linkage, local_id, is_lid, is_plain, keeps_rule}
 use Rattle.request_model.proofs.OnLiterals.{requests_on_literals}
 use Rattle.request_model.proofs.Blog.{blog}
 
@@ -373,3 +373,12 @@ unknown_link_of_update = refl
 data_is_not_plain : is_plain stands.Data ≡ false
 unfolding requests_on_literals
 data_is_not_plain = refl
+
+-- no JSON text gives these bytes
+names_are_utf8 : keeps_rule (named.Lid 0 (255 ∷ [])) ≡ false
+unfolding requests_on_literals
+names_are_utf8 = refl
+
+local_ids_are_utf8 : is_lid (255 ∷ []) ≡ false
+unfolding requests_on_literals
+local_ids_are_utf8 = refl

@@ -1,9 +1,10 @@
 -- Resources that were read fit: new ones and changed ones.
-use Rattle.std.specs.Prelude.{ℕ, ◌<◌, ◌+◌, Bool, true, false, not, nat_lt, nat_le, if◌then◌else◌, List, [], ◌∷◌, codes, length, Option, Some, None, Ok, Err, IfSome, MatchOption, slice_get, option_map, suc, ⊤}
+use Rattle.std.specs.Prelude.{ℕ, ◌&&◌, ◌<◌, ◌+◌, Bool, true, false, not, nat_lt, nat_le, if◌then◌else◌, List, [], ◌∷◌, codes, length, Option, Some, None, Ok, Err, IfSome, MatchOption, slice_get, option_map, suc, ⊤}
 use Rattle.std.specs.Option.{ok_or, option_or, option_map_or}
 use Rattle.std.specs.List.{AllZip, AllByRecursion, list_all, enumerate_from}
 use Rattle.std.specs.Char.{is_ascii_digit}
-use Rattle.std.specs.Str.{bytes_eq}
+use Rattle.std.specs.Str.{bytes_eq, is_utf8}
+use borrow.Author.Tests.{ltb-true, leb-true}
 use Rattle.std.specs.Str.Parse.{AllDigits}
 use Rattle.std.specs.Ordering.{nat_cmp, eq_by_cmp}
 use Rattle.std.specs.FinMap.Entries.{find}
@@ -25,6 +26,7 @@ use Rattle.resource_schema.specs.Forms.{HasForm, has_form}
 use Rattle.resource_schema.specs.Kinds.{attributes_of, kind_name, number_of_kind, has_client_ids}
 use Rattle.resource_schema.specs.SchemaLaws.{kind_at}
 use Rattle.resource_schema.specs.SchemaRules.{is_schema, is_attribute}
+use Rattle.task_forms.specs.declared.operations.TheConstants.{LID_LIMIT}
 use Rattle.task_forms.specs.declared.operations.Named.{Named}
 use Rattle.task_forms.specs.declared.operations.Named.TheVariants as named
 use Rattle.task_forms.specs.declared.operations.Where.TheVariants as stands
@@ -96,10 +98,9 @@ client_id-fits schema kind at (Some d) id e =
 
 lid-fits : (lid : List ℕ) → is_lid lid ≡ true → IsLid lid
 lid-fits lid e =
-    let parts = and_parts (nat_lt 0 (length lid)) (nat_le (length lid) 64) e in
-    let some : nat_lt 0 (length lid) ≡ true = parts.0 in
-    let few : nat_le (length lid) 64 ≡ true = parts.1 in
-    (grind (arith, nat_tests, some), grind (arith, nat_tests, few))
+    let text = and_parts (nat_lt 0 (length lid) && nat_le (length lid) LID_LIMIT) (is_utf8 lid) e in
+    let parts = and_parts (nat_lt 0 (length lid)) (nat_le (length lid) LID_LIMIT) text.0 in
+    (ltb-true _ _ parts.0, leb-true _ _ parts.1, text.1)
 
 local_id-fits : (at : List ℕ) (o : Option Data) (lid : Option (List ℕ)) → local_id at o ≡ Ok lid → MatchOption lid ⊤ IsLid
 local_id-fits at None lid e = let same : lid ≡ None = cc e in rw same tt

@@ -4,14 +4,17 @@ use Rattle.serde_json.specs.Data.{Data, null, string, array, object, member, no_
 use Rattle.serde_json.specs.View.{items_of}
 use Rattle.resource_schema.specs.declared.schema.Schema.{Schema}
 use Rattle.resource_schema.specs.declared.values.Form.TheVariants as form
+use Rattle.resource_schema.specs.declared.values.AttrValue.TheVariants as value
+use Rattle.resource_schema.specs.Kinds.{to_one}
 use Rattle.error_objects.specs.declared.codes.Code.TheVariants as code
 use Rattle.error_objects.specs.Refusals.{at_pointer}
 use Rattle.std.specs.List.{enumerate_from}
-use Rattle.std.proofs.Common.{ap, ◌∙◌}
-use Rattle.request_model.specs.Words.{all_ok}
+use Rattle.std.proofs.Common.{ap, ◌∙◌, IsAscii, zero, suc, arith}
+use Rattle.std.proofs.lemmas.Str.{IsUtf8-from_ascii, is_utf8-from_IsUtf8}
+use Rattle.request_model.specs.Words.{all_ok, some_if}
 use Rattle.request_model.specs.Results.{◌>>◌, err_if}
 use Rattle.request_model.specs.ListLaws.{items_list-items_of}
-use Rattle.request_model.specs.Documents.{bad_document, indexed, to_many}
+use Rattle.request_model.specs.Documents.{bad_document, indexed, many_linkage}
 use Rattle.request_model.specs.Values.{value_from}
 use Rattle.json_forms.specs.Json.{json_of, items_list}
 use Rattle.request_model.specs.Queries.{path_of, paths_of, sort_keys_of}
@@ -38,8 +41,13 @@ nested_128 : json_of (replicate 128 91 ++ replicate 128 93) ≡ None
 unfolding requests_on_literals
 nested_128 = refl
 
+ascii : (n : ℕ) → IsAscii (replicate n 120)
+ascii zero i = omega arith
+ascii (suc n) zero = omega arith
+ascii (suc n) (suc i) = ascii n i
+
 long_text : is_some (value_from form.Text false (string (replicate 65536 120))) ≡ true
-long_text = refl
+long_text = ap (λ b. is_some (some_if b (value.Text (replicate 65536 120)))) (is_utf8-from_IsUtf8 (replicate 65536 120) (IsUtf8-from_ascii (replicate 65536 120) (ascii 65536)))
 
 too_long_text : value_from form.Text false (string (replicate 65537 120)) ≡ None
 too_long_text = refl
@@ -59,7 +67,7 @@ seventeen_paths = refl
 -- a type with nine attributes and a relationship to itself
 abbrev wide : Schema
 wide =
-    record { name = codes "t"; client_ids = false; attributes = map (λ b. text_attribute (b ∷ [])) (codes "abcdefghi"); relationships = record { name = codes "up"; many = false; target = 0 } ∷ [] } ∷ []
+    record { name = codes "t"; client_ids = false; attributes = map (λ b. text_attribute (b ∷ [])) (codes "abcdefghi"); relationships = to_one (codes "up") 0 ∷ [] } ∷ []
 
 eight_sort_keys : is_some (sort_keys_of wide 0 (codes "a,b,c,d,e,f,g,-h")) ≡ true
 unfolding requests_on_literals
@@ -82,7 +90,7 @@ unfolding requests_on_literals
 no_name_in_path = refl
 
 -- an array of 2 ^ 32 members or more
-many_members : (ds : List Data) → nat_le 4294967296 (length ds) ≡ true → to_many blog 1 (codes "/data") (array (items_of ds)) ≡ Err (at_pointer code.BadDocument (codes "/data"))
+many_members : (ds : List Data) → nat_le 4294967296 (length ds) ≡ true → many_linkage blog 1 (codes "/data") (array (items_of ds)) ≡ Err (at_pointer code.BadDocument (codes "/data"))
 many_members ds over =
     ap (λ b. ◌>>◌ (err_if b (bad_document (codes "/data"))) (all_ok (map (indexed blog 1 (codes "/data")) (enumerate_from 0 (items_list (items_of ds))))))
     (ap (λ l. nat_le 4294967296 (length l)) (items_list-items_of ds) ∙ over)

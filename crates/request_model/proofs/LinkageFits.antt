@@ -23,7 +23,7 @@ use Rattle.error_objects.specs.Refusals.{at_pointer}
 use Rattle.error_objects.specs.declared.codes.Code.TheVariants as code
 use Rattle.request_model.specs.Words.{all_ok, result_map}
 use Rattle.request_model.specs.Results.{err_if}
-use Rattle.request_model.specs.Documents.{bad_document, named_by, named_in, keeps_rule, identifier, to_one, indexed, to_many, linkage}
+use Rattle.request_model.specs.Documents.{bad_document, named_by, named_in, keeps_rule, identifier, one_linkage, indexed, many_linkage, linkage}
 use Rattle.request_model.proofs.Inversions.{bind-Ok, then-Ok, map-Ok, err_if-Ok, negated, ok_or-Ok, all_ok-zip}
 use Rattle.request_model.proofs.Zips.{zip-length, zip-right, all-always, all-into}
 
@@ -38,11 +38,11 @@ named_by-kind kind None None n e = cc e
 -- a name that keeps the rule, of a known type
 pub rule-IsNamed : (schema : Schema) (n : Named) → kind_of n < length schema → keeps_rule n ≡ true → IsNamed schema n
 rule-IsNamed schema (named.Id key) known rule = (known, rule)
-rule-IsNamed schema (named.Lid kind lid) known rule = known
+rule-IsNamed schema (named.Lid kind lid) known rule = (known, rule)
 
 pub IsNamed-kind : (schema : Schema) (n : Named) → IsNamed schema n → kind_of n < length schema
 IsNamed-kind schema (named.Id key) fits = fits.0
-IsNamed-kind schema (named.Lid kind lid) fits = fits
+IsNamed-kind schema (named.Lid kind lid) fits = fits.0
 
 -- a name of a resource of this type
 abbrev pub IsOf : Schema → ℕ → Named → Type 0
@@ -69,14 +69,14 @@ one-fits schema kind at d members known e =
     let a = map-Ok (λ n. record { named = n; index = None } ∷ []) (identifier schema kind at d) members e in
     rw (sym a.2) ((identifier-fits schema kind at d a.0 known a.1, tt), (omega arith, (refl, tt)))
 
-to_one-fits : (schema : Schema) (kind : ℕ) (at : List ℕ) (d : Data) (members : List Member) → kind < length schema → to_one schema kind at d ≡ Ok members
+one_linkage-fits : (schema : Schema) (kind : ℕ) (at : List ℕ) (d : Data) (members : List Member) → kind < length schema → one_linkage schema kind at d ≡ Ok members
     → AllByRecursion (λ m. IsOf schema kind m.named) members × FitsCount false members
-to_one-fits schema kind at null members known e = let same : members ≡ [] = cc e in rw same (tt, (omega arith, tt))
-to_one-fits schema kind at (boolean b) members known e = one-fits schema kind at (boolean b) members known e
-to_one-fits schema kind at (number n) members known e = one-fits schema kind at (number n) members known e
-to_one-fits schema kind at (string s) members known e = one-fits schema kind at (string s) members known e
-to_one-fits schema kind at (array ds) members known e = one-fits schema kind at (array ds) members known e
-to_one-fits schema kind at (object ms) members known e = one-fits schema kind at (object ms) members known e
+one_linkage-fits schema kind at null members known e = let same : members ≡ [] = cc e in rw same (tt, (omega arith, tt))
+one_linkage-fits schema kind at (boolean b) members known e = one-fits schema kind at (boolean b) members known e
+one_linkage-fits schema kind at (number n) members known e = one-fits schema kind at (number n) members known e
+one_linkage-fits schema kind at (string s) members known e = one-fits schema kind at (string s) members known e
+one_linkage-fits schema kind at (array ds) members known e = one-fits schema kind at (array ds) members known e
+one_linkage-fits schema kind at (object ms) members known e = one-fits schema kind at (object ms) members known e
 
 indexed-fits : (schema : Schema) (kind : ℕ) (at : List ℕ) (p : ℕ × Data) (m : Member) → kind < length schema → indexed schema kind at p ≡ Ok m
     → (m.index ≡ Some p.0) × IsOf schema kind m.named
@@ -93,9 +93,9 @@ are_indexed R n (d ∷ ds) (m ∷ members) f z = (f (n, d) m z.0, are_indexed R 
 below : (m n : ℕ) → nat_le m n ≡ false → n < m
 below m n e = grind (arith, nat_tests, e)
 
-to_many-fits : (schema : Schema) (kind : ℕ) (at : List ℕ) (d : Data) (members : List Member) → kind < length schema → to_many schema kind at d ≡ Ok members
+many_linkage-fits : (schema : Schema) (kind : ℕ) (at : List ℕ) (d : Data) (members : List Member) → kind < length schema → many_linkage schema kind at d ≡ Ok members
     → AllByRecursion (λ m. IsOf schema kind m.named) members × FitsCount true members
-to_many-fits schema kind at d members known e =
+many_linkage-fits schema kind at d members known e =
     let a = bind-Ok (ok_or (as_array d) (bad_document at)) _ members e in
     let b = then-Ok (err_if (nat_le (2 ^ 32) (length (items_list a.0))) (bad_document at)) _ members a.2 in
     many-fits (items_list a.0) members (err_if-Ok (nat_le (2 ^ 32) (length (items_list a.0))) (bad_document at) b.0 b.1) b.2 where
@@ -110,10 +110,10 @@ to_many-fits schema kind at d members known e =
           )
 
 by_count : (schema : Schema) (kind : ℕ) (many : Bool) (at : List ℕ) (d : Data) (members : List Member) → kind < length schema
-    → (if many then to_many schema kind at d else to_one schema kind at d) ≡ Ok members
+    → (if many then many_linkage schema kind at d else one_linkage schema kind at d) ≡ Ok members
     → AllByRecursion (λ m. IsOf schema kind m.named) members × FitsCount many members
-by_count schema kind true at d members known e = to_many-fits schema kind at d members known e
-by_count schema kind false at d members known e = to_one-fits schema kind at d members known e
+by_count schema kind true at d members known e = many_linkage-fits schema kind at d members known e
+by_count schema kind false at d members known e = one_linkage-fits schema kind at d members known e
 
 of_relationship : (schema : Schema) (members : List Member) (o : Option Relationship)
     → AllByRecursion (λ m. IsOf schema (option_map_or (λ r. r.target) o 0) m.named) members × FitsCount (option_map_or (λ r. r.many) o false) members

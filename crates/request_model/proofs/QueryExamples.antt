@@ -9,7 +9,7 @@ use Rattle.task_forms.specs.declared.queries.Query.{Query}
 use Rattle.resource_schema.specs.declared.values.AttrValue.TheVariants as value
 use Rattle.error_objects.specs.Refusals.{at_parameter}
 use Rattle.task_forms.specs.Queries.{first_page, no_query}
-use Rattle.request_model.specs.Queries.{query_of, pairs_of, page_size_of, no_parameter}
+use Rattle.request_model.specs.Queries.{in_brackets, query_of, pairs_of, page_size_of, no_parameter}
 use Rattle.request_model.proofs.OnLiterals.{requests_on_literals}
 use Rattle.request_model.proofs.Blog.{blog}
 
@@ -57,7 +57,7 @@ size_of_resource : query_of blog article (codes "page%5Bsize%5D=1") ≡ refused 
 unfolding requests_on_literals
 size_of_resource = refl
 
-too_large : articles (codes "page[size]=201") ≡ refused code.BadPageSize (codes "page[size]")
+too_large : articles (codes "page[size]=1001") ≡ refused code.BadPageSize (codes "page[size]")
 unfolding requests_on_literals
 too_large = refl
 
@@ -98,7 +98,10 @@ padded_cursor : articles (codes "page[after]=WyIyIl0=") ≡ refused code.BadCurs
 unfolding requests_on_literals
 padded_cursor = refl
 
-two_cursors : articles (codes "page[after]=x&page[before]=y") ≡ refused code.RangeUnsupported (codes "page[before]")
+two_cursors : articles (codes "page[after]=WyIxIl0&page[before]=WyI1Il0&page[size]=2") ≡ Ok (record no_query {
+  pairs = (codes "page[after]", codes "WyIxIl0") ∷ (codes "page[before]", codes "WyI1Il0") ∷ (codes "page[size]", codes "2") ∷ [];
+  page = record { size = 2; after = Some (record { values = []; id = codes "1" }); before = Some (record { values = []; id = codes "5" }) };
+})
 unfolding requests_on_literals
 two_cursors = refl
 
@@ -125,7 +128,7 @@ least_page : page_size_of (codes "1") ≡ Some 1
 unfolding requests_on_literals
 least_page = refl
 
-greatest_page : page_size_of (codes "200") ≡ Some 200
+greatest_page : page_size_of (codes "1000") ≡ Some 1000
 unfolding requests_on_literals
 greatest_page = refl
 
@@ -133,7 +136,7 @@ page_of_none : page_size_of (codes "0") ≡ None
 unfolding requests_on_literals
 page_of_none = refl
 
-page_too_large : page_size_of (codes "201") ≡ None
+page_too_large : page_size_of (codes "1001") ≡ None
 unfolding requests_on_literals
 page_too_large = refl
 
@@ -190,10 +193,14 @@ cursor_twice : articles (codes "page[after]=WyIyIl0&page[after]=WyIyIl0") ≡ re
 unfolding requests_on_literals
 cursor_twice = refl
 
--- the range is judged before the cursors, in either order, and after the pairs
-range_reversed : articles (codes "page[before]=y&page[after]=x") ≡ refused code.RangeUnsupported (codes "page[before]")
+-- the cursors are judged after the pairs, `page[after]` first
+bad_cursors : articles (codes "page[before]=y&page[after]=x") ≡ refused code.BadCursor (codes "page[after]")
 unfolding requests_on_literals
-range_reversed = refl
+bad_cursors = refl
+
+bad_second_cursor : articles (codes "page[before]=y&page[after]=WyIyIl0") ≡ refused code.BadCursor (codes "page[before]")
+unfolding requests_on_literals
+bad_second_cursor = refl
 
 range_and_unknown : articles (codes "page[after]=x&page[before]=y&z") ≡ refused code.UnknownParameter (codes "z")
 unfolding requests_on_literals
@@ -208,7 +215,7 @@ null_in_cursor : articles (codes "page[after]=W251bGwsIjIiXQ&sort=title") ≡ re
 unfolding requests_on_literals
 null_in_cursor = refl
 
-before_cursor : articles (codes "page[before]=WyIyIl0&page[size]=200") ≡ Ok (record no_query { pairs = (codes "page[before]", codes "WyIyIl0") ∷ (codes "page[size]", codes "200") ∷ []; page = record { size = 200; after = None; before = Some (record { values = []; id = codes "2" }) } })
+before_cursor : articles (codes "page[before]=WyIyIl0&page[size]=1000") ≡ Ok (record no_query { pairs = (codes "page[before]", codes "WyIyIl0") ∷ (codes "page[size]", codes "1000") ∷ []; page = record { size = 1000; after = None; before = Some (record { values = []; id = codes "2" }) } })
 unfolding requests_on_literals
 before_cursor = refl
 
@@ -315,3 +322,19 @@ no_pair = refl
 known_name : no_parameter (pairs_of (codes "page%5Bsize%5D=1&x")) ≡ Some (at_parameter code.UnknownParameter (codes "page[size]"))
 unfolding requests_on_literals
 known_name = refl
+
+in_page : in_brackets (codes "page") (codes "page[size]") ≡ Some (codes "size")
+unfolding requests_on_literals
+in_page = refl
+
+of_another_family : in_brackets (codes "filter") (codes "fields[notes]") ≡ None
+unfolding requests_on_literals
+of_another_family = refl
+
+behind_brackets : in_brackets (codes "fields") (codes "fields[notes]s") ≡ None
+unfolding requests_on_literals
+behind_brackets = refl
+
+in_no_brackets : in_brackets (codes "fields") (codes "fields") ≡ None
+unfolding requests_on_literals
+in_no_brackets = refl

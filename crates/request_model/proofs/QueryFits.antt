@@ -18,6 +18,7 @@ use Rattle.resource_schema.specs.Kinds.{number_of_kind, attributes_of, attribute
 use Rattle.task_forms.specs.declared.queries.Path.{Path}
 use Rattle.task_forms.specs.declared.queries.SortKey.{SortKey}
 use Rattle.task_forms.specs.declared.queries.Query.{Query}
+use Rattle.task_forms.specs.declared.queries.TheConstants.{PAGE_SIZE_LIMIT, PATH_LENGTH_LIMIT, PATH_LIMIT, SORT_LIMIT}
 use Rattle.task_forms.specs.Fit.{FollowsFrom, FitsCursor, FitsQuery, IsBare, FitsFetch}
 use Rattle.error_objects.specs.declared.codes.Code.TheVariants as code
 use Rattle.error_objects.specs.Refusals.{at_parameter}
@@ -29,7 +30,7 @@ use Rattle.request_model.specs.Targets.{IsKnownTarget}
 use Rattle.request_model.specs.Results.{err_if}
 use Rattle.request_model.specs.Cursors.{place_of_cursor}
 use Rattle.task_forms.specs.Queries.{first_page, no_query}
-use Rattle.request_model.specs.Queries.{pairs_of, parameter_of, has_resources, is_page, primary_kind, knows, known_parameter, in_brackets, listed, rels_from, path_of, paths_of, field_set_of, sort_key_of, sort_keys_of, are_distinct, page_size_of, with_query, or_bad, with_parameter, has_name, with_pair, with_pairs, sort_forms, place_at, query_of}
+use Rattle.request_model.specs.Queries.{size_digits, pairs_of, parameter_of, has_resources, is_page, primary_kind, knows, known_parameter, in_brackets, field_set_named, listed, rels_from, path_of, paths_of, field_set_of, sort_key_of, sort_keys_of, are_distinct, page_size_of, with_query, or_bad, with_parameter, has_name, with_pair, with_pairs, sort_forms, place_at, query_of}
 use Rattle.request_model.proofs.Inversions.{bind-Ok, then-Ok, map-Ok, err_if-Ok, ok_or-Ok, bind-Some, map-Some, some_if-Some, some_or_none, all_some-zip}
 use Rattle.request_model.proofs.Zips.{zip-right, all-always, position-found}
 use Rattle.request_model.proofs.CursorFits.{within-found, cursor-fits}
@@ -52,13 +53,13 @@ rels_from-follow schema kind (name ∷ names) rels e =
 
 path_of-follows : (schema : Schema) (kind : ℕ) (text : List ℕ) (p : Path) → path_of schema kind text ≡ Some p → FollowsFrom schema kind p.rels
 path_of-follows schema kind text p e =
-    let a = map-Some (λ rels. record { rels = rels }) (if nat_le (length (parts_at dot text)) 8 then rels_from schema kind (parts_at dot text) else None) p e in
-    let b = some_or_none (nat_le (length (parts_at dot text)) 8) (rels_from schema kind (parts_at dot text)) a.0 a.1 in
+    let a = map-Some (λ rels. record { rels = rels }) (if nat_le (length (parts_at dot text)) PATH_LENGTH_LIMIT then rels_from schema kind (parts_at dot text) else None) p e in
+    let b = some_or_none (nat_le (length (parts_at dot text)) PATH_LENGTH_LIMIT) (rels_from schema kind (parts_at dot text)) a.0 a.1 in
     subst (λ p. FollowsFrom schema kind p.rels) a.2 (rels_from-follow schema kind (parts_at dot text) a.0 b.1)
 
 paths_of-follow : (schema : Schema) (kind : ℕ) (value : List ℕ) (paths : List Path) → paths_of schema kind value ≡ Some paths → AllByRecursion (λ p. FollowsFrom schema kind p.rels) paths
 paths_of-follow schema kind value paths e =
-    let a = some_or_none (nat_le (length (listed value)) 16) (all_some (map (path_of schema kind) (listed value))) paths e in
+    let a = some_or_none (nat_le (length (listed value)) PATH_LIMIT) (all_some (map (path_of schema kind) (listed value))) paths e in
     zip-right (λ t. ⊤) _ (λ p. FollowsFrom schema kind p.rels) (listed value) paths (λ text p t q. path_of-follows schema kind text p q) (all-always (λ t. ⊤) (listed value) (λ t. tt)) (all_some-zip (path_of schema kind) (listed value) paths a.1)
 
 field_set-known : (schema : Schema) (name value : List ℕ) (fs : ℕ × List (List ℕ)) → field_set_of schema name value ≡ Some fs → fs.0 < length schema
@@ -76,18 +77,18 @@ sort_key-known schema kind text s e =
 sort_keys-known : (schema : Schema) (kind : ℕ) (value : List ℕ) (keys : List SortKey) → sort_keys_of schema kind value ≡ Some keys → AllByRecursion (λ s. s.attribute < length (attributes_of schema kind)) keys
 sort_keys-known schema kind value keys e =
     let a = bind-Some (all_some (map (sort_key_of schema kind) (parts_at comma value))) _ keys e in
-    let b = some_if-Some (nat_le (length a.0) 8 && are_distinct (map (λ k. k.attribute) a.0)) a.0 keys a.2 in
+    let b = some_if-Some (nat_le (length a.0) SORT_LIMIT && are_distinct (map (λ k. k.attribute) a.0)) a.0 keys a.2 in
     subst (AllByRecursion (λ s. s.attribute < length (attributes_of schema kind))) b.1
     (zip-right (λ t. ⊤) _ (λ s. s.attribute < length (attributes_of schema kind)) (parts_at comma value) a.0 (λ text s t q. sort_key-known schema kind text s q) (all-always (λ t. ⊤) (parts_at comma value) (λ t. tt)) (all_some-zip (sort_key_of schema kind) (parts_at comma value) a.0 a.1))
 
-small : (n : ℕ) → nat_le n 200 ≡ true → n < 2 ^ 16
+small : (n : ℕ) → nat_le n PAGE_SIZE_LIMIT ≡ true → n < 2 ^ 16
 small n e = grind (arith, nat_tests, e)
 
 page_size-small : (value : List ℕ) (n : ℕ) → page_size_of value ≡ Some n → n < 2 ^ 16
 page_size-small value n e =
     let m = digits_value 10 value in
-    let a = some_if-Some (nat_lt 0 (length value) && nat_le (length value) 9 && list_all is_ascii_digit value && nat_le 1 (digits_value 10 value) && nat_le (digits_value 10 value) 200) (digits_value 10 value) n e in
-    let last = and_parts (nat_lt 0 (length value) && nat_le (length value) 9 && list_all is_ascii_digit value && nat_le 1 (digits_value 10 value)) (nat_le (digits_value 10 value) 200) a.0 in
+    let a = some_if-Some (nat_lt 0 (length value) && nat_le (length value) size_digits && list_all is_ascii_digit value && nat_le 1 (digits_value 10 value) && nat_le (digits_value 10 value) PAGE_SIZE_LIMIT) (digits_value 10 value) n e in
+    let last = and_parts (nat_lt 0 (length value) && nat_le (length value) size_digits && list_all is_ascii_digit value && nat_le 1 (digits_value 10 value)) (nat_le (digits_value 10 value) PAGE_SIZE_LIMIT) a.0 in
     subst (λ n. n < 2 ^ 16) a.1 (small (digits_value 10 value) last.1)
 
 -- ---- from left to right
@@ -114,8 +115,9 @@ module _ (schema : Schema) (t : Target) where
       let paths = paths_of-follow schema (primary_kind schema t) value a.0 (ok_or-Ok (paths_of schema (primary_kind schema t) value) (at_parameter code.BadInclude name) a.0 a.1) in
       subst (AskedFits schema t) a.2 (record { sort = fits.sort; size = fits.size; paths = paths; fields = fits.fields; no_resources = λ h. cc (known, h); no_sort = fits.no_sort; no_after = fits.no_after; no_before = fits.no_before })
   with_parameter-fits asked more name value parameter.Fields fits known e =
-      let a = map-Ok (λ fs. with_query asked (record asked.query { fields = asked.query.fields ++ fs ∷ [] })) (or_bad code.BadFields name (field_set_of schema (in_brackets name) value)) more e in
-      let one = field_set-known schema (in_brackets name) value a.0 (ok_or-Ok (field_set_of schema (in_brackets name) value) (at_parameter code.BadFields name) a.0 a.1) in
+      let a = map-Ok (λ fs. with_query asked (record asked.query { fields = asked.query.fields ++ fs ∷ [] })) (or_bad code.BadFields name (field_set_named schema name value)) more e in
+      let named = bind-Some (in_brackets (codes "fields") name) (λ type. field_set_of schema type value) a.0 (ok_or-Ok (field_set_named schema name value) (at_parameter code.BadFields name) a.0 a.1) in
+      let one = field_set-known schema named.0 value a.0 named.2 in
       subst (AskedFits schema t) a.2 (record { sort = fits.sort; size = fits.size; paths = fits.paths; fields = all-push (λ f. f.0 < length schema) asked.query.fields a.0 fits.fields one; no_resources = fits.no_resources; no_sort = fits.no_sort; no_after = fits.no_after; no_before = fits.no_before })
   with_parameter-fits asked more name value parameter.Sort fits known e =
       let a = map-Ok (λ keys. with_query asked (record asked.query { sort = keys })) (or_bad code.BadSort name (sort_keys_of schema (primary_kind schema t) value)) more e in
@@ -163,12 +165,6 @@ place_at-fits schema kind keys name (Some text) p known e =
     let a = map-Ok Some (or_bad code.BadCursor name (place_of_cursor (sort_forms schema kind keys) text)) p e in
     subst (λ p. IfSome p (FitsCursor schema kind keys)) a.2 (cursor-fits schema kind keys text a.0 known (ok_or-Ok (place_of_cursor (sort_forms schema kind keys) text) (at_parameter code.BadCursor name) a.0 a.1))
 
-one_cursor : (forms : List (Form × Bool)) (after_name before_name : List ℕ) (o q : Option (List ℕ)) (after before : Option Place) → (is_some o && is_some q) ≡ false
-    → place_at forms after_name o ≡ Ok after → place_at forms before_name q ≡ Ok before → IsTrue (is_some after) → before ≡ None
-one_cursor forms an bn None q after before e f g h = let none : after ≡ None = no_place forms an None after f refl in cc (subst (λ a. IsTrue (is_some a)) none h)
-one_cursor forms an bn (Some o) None after before e f g h = no_place forms bn None before g refl
-one_cursor forms an bn (Some o) (Some q) after before e f g h = cc e
-
 -- ---- the query
 
 -- a target's query: it fits the type of the primary data, and asks for nothing that the target does not know
@@ -179,19 +175,19 @@ pub record QueryFits (schema : Schema) (t : Target) (query : Query) : Type 0 whe
 pub query_of-fits : (schema : Schema) (t : Target) (text : List ℕ) (query : Query) → query_of schema t text ≡ Ok query → QueryFits schema t query
 query_of-fits schema t text query e =
     let a = bind-Ok (with_pairs schema t (record { query = no_query; after = None; before = None }) (pairs_of text)) _ query e in
-    let b = then-Ok (err_if (is_some a.0.after && is_some a.0.before) (at_parameter code.RangeUnsupported (codes "page[before]"))) _ query a.2 in
     let forms = sort_forms schema (primary_kind schema t) a.0.query.sort in
-    let c = bind-Ok (place_at (sort_forms schema (primary_kind schema t) a.0.query.sort) (codes "page[after]") a.0.after) _ query b.2 in
+    let c = bind-Ok (place_at (sort_forms schema (primary_kind schema t) a.0.query.sort) (codes "page[after]") a.0.after) _ query a.2 in
     let f = bind-Ok (place_at (sort_forms schema (primary_kind schema t) a.0.query.sort) (codes "page[before]") a.0.before) _ query c.2 in
     let same : record a.0.query { page = record a.0.query.page { after = c.0; before = f.0 } } ≡ query = cc f.2 in
     let start : AskedFits schema t (record { query = no_query; after = None; before = None }) = record { sort = tt; size = omega arith; paths = tt; fields = tt; no_resources = λ h. refl; no_sort = λ h. refl; no_after = λ h. refl; no_before = λ h. refl } in
     let asked = with_pairs-fit schema t (pairs_of text) (record { query = no_query; after = None; before = None }) a.0 start a.1 in
     let fits : FitsQuery schema (primary_kind schema t) (record a.0.query { page = record a.0.query.page { after = c.0; before = f.0 } }) = record {
-      sort = asked.sort;
-      size = asked.size;
-      one_cursor = one_cursor forms (codes "page[after]") (codes "page[before]") a.0.after a.0.before c.0 f.0 (err_if-Ok _ (at_parameter code.RangeUnsupported (codes "page[before]")) b.0 b.1) c.1 f.1;
-      after = place_at-fits schema (primary_kind schema t) a.0.query.sort (codes "page[after]") a.0.after c.0 asked.sort c.1;
-      before = place_at-fits schema (primary_kind schema t) a.0.query.sort (codes "page[before]") a.0.before f.0 asked.sort f.1;
+      page = record {
+        keys = asked.sort;
+        size = asked.size;
+        after = place_at-fits schema (primary_kind schema t) a.0.query.sort (codes "page[after]") a.0.after c.0 asked.sort c.1;
+        before = place_at-fits schema (primary_kind schema t) a.0.query.sort (codes "page[before]") a.0.before f.0 asked.sort f.1;
+      };
       paths = asked.paths;
       fields = asked.fields;
     } in

@@ -2,6 +2,7 @@
 use Rattle.std.specs.Prelude.{◌≡◌, ℕ, zero, suc, List, [], ◌∷◌, true, false, Some, Result, Ok, Err, codes, refl}
 use Rattle.serde_json.specs.Data.{null, object, Members, no_members, member}
 use Rattle.resource_schema.specs.declared.schema.Schema.{Schema}
+use Rattle.resource_schema.specs.Kinds.{to_many}
 use Rattle.resource_schema.specs.declared.faults.SchemaFault.{SchemaFault}
 use Rattle.resource_schema.specs.declared.faults.Why.{Why}
 use Rattle.resource_schema.specs.declared.faults.Why.TheVariants as why
@@ -190,7 +191,7 @@ own_target : schema_of_text (codes "{\"types\":{\"a\":{\"attributes\":{\"x\":{\"
   name = codes "a";
   client_ids = false;
   attributes = record { name = codes "x"; form = form.Bool; nullable = true; default = Some value.Null } ∷ record { name = codes "y"; form = form.Bool; nullable = false; default = Some (value.Bool true) } ∷ [];
-  relationships = record { name = codes "z"; many = true; target = 0 } ∷ [];
+  relationships = to_many (codes "z") 0 ∷ [];
 } ∷ [])
 unfolding requests_on_literals
 own_target = refl

@@ -43,8 +43,8 @@ use Rattle.request_model.specs.Values.{value_from}
 use Rattle.request_model.specs.Targets.{target_of_path, allow_of, need_of}
 use Rattle.request_model.specs.Negotiation.{content, acceptable}
 use Rattle.task_forms.specs.Queries.{no_query}
-use Rattle.request_model.specs.Queries.{pairs_of, query_of, no_parameter, known_parameter, or_bad, with_parameter, has_name, primary_kind, with_pair, with_pairs, sort_forms, place_at, paths_of, field_set_of, in_brackets, sort_keys_of, page_size_of}
-use Rattle.request_model.specs.Documents.{bad_document, object_at, text_member, fields_at, named_in, keeps_rule, identifier, to_one, indexed, to_many, linkage, given_value, given_values, given_link, given_links, all_values, kind_named, resource_kind, client_id, is_lid, local_id, create_of, name_member, same_named, own_name, lid_in, target_of_update, who_of, update_of}
+use Rattle.request_model.specs.Queries.{pairs_of, query_of, no_parameter, known_parameter, or_bad, with_parameter, has_name, primary_kind, with_pair, with_pairs, sort_forms, place_at, paths_of, field_set_named, sort_keys_of, page_size_of}
+use Rattle.request_model.specs.Documents.{bad_document, object_at, text_member, fields_at, named_in, keeps_rule, identifier, one_linkage, indexed, many_linkage, linkage, given_value, given_values, given_link, given_links, all_values, kind_named, resource_kind, client_id, is_lid, local_id, create_of, name_member, same_named, own_name, lid_in, target_of_update, who_of, update_of}
 use Rattle.request_model.specs.OperationLists.{op_of, op_at, optional_text, aim_of_ref, ref_aim, href_aim, aim_by, if_many, act_of, with_data, operation_by, operation_of, absent, list_pointer, operations_of}
 use Rattle.request_model.specs.Plans.{body_value, primary_data, by_path, data_pointer, update_task, change_of, judged, is_fetch, none_or_err, fetch_of, change_without_query, task_of, is_list}
 
@@ -108,23 +108,23 @@ module _ (in_list : Bool) where
   abbrev alone : Named → List Member
   alone n = record { named = n; index = None } ∷ []
 
-  to_one-sourced : (schema : Schema) (kind : ℕ) (at : List ℕ) (d : Data) → IfErr (to_one schema kind at d) Sourced
-  to_one-sourced schema kind at null = tt
-  to_one-sourced schema kind at (boolean b) = map-err Sourced alone (identifier schema kind at (boolean b)) (identifier-sourced schema kind at (boolean b))
-  to_one-sourced schema kind at (number n) = map-err Sourced alone (identifier schema kind at (number n)) (identifier-sourced schema kind at (number n))
-  to_one-sourced schema kind at (string s) = map-err Sourced alone (identifier schema kind at (string s)) (identifier-sourced schema kind at (string s))
-  to_one-sourced schema kind at (array ds) = map-err Sourced alone (identifier schema kind at (array ds)) (identifier-sourced schema kind at (array ds))
-  to_one-sourced schema kind at (object ms) = map-err Sourced alone (identifier schema kind at (object ms)) (identifier-sourced schema kind at (object ms))
+  one_linkage-sourced : (schema : Schema) (kind : ℕ) (at : List ℕ) (d : Data) → IfErr (one_linkage schema kind at d) Sourced
+  one_linkage-sourced schema kind at null = tt
+  one_linkage-sourced schema kind at (boolean b) = map-err Sourced alone (identifier schema kind at (boolean b)) (identifier-sourced schema kind at (boolean b))
+  one_linkage-sourced schema kind at (number n) = map-err Sourced alone (identifier schema kind at (number n)) (identifier-sourced schema kind at (number n))
+  one_linkage-sourced schema kind at (string s) = map-err Sourced alone (identifier schema kind at (string s)) (identifier-sourced schema kind at (string s))
+  one_linkage-sourced schema kind at (array ds) = map-err Sourced alone (identifier schema kind at (array ds)) (identifier-sourced schema kind at (array ds))
+  one_linkage-sourced schema kind at (object ms) = map-err Sourced alone (identifier schema kind at (object ms)) (identifier-sourced schema kind at (object ms))
 
-  to_many-sourced : (schema : Schema) (kind : ℕ) (at : List ℕ) (d : Data) → IfErr (to_many schema kind at d) Sourced
-  to_many-sourced schema kind at d =
+  many_linkage-sourced : (schema : Schema) (kind : ℕ) (at : List ℕ) (d : Data) → IfErr (many_linkage schema kind at d) Sourced
+  many_linkage-sourced schema kind at d =
       bind-err Sourced (ok_or (as_array d) (bad_document at)) _ (ok_or-err Sourced (as_array d) (bad_document at) tt) (λ items.
       then-err Sourced (err_if (nat_le (2 ^ 32) (length (items_list items))) (bad_document at)) _ (err_if-err Sourced (nat_le (2 ^ 32) (length (items_list items))) (bad_document at) tt)
       (all_ok-err Sourced (indexed schema kind at) (enumerate_from 0 (items_list items)) (λ p. map-err Sourced _ (identifier schema kind (at // decimal p.0) p.1) (identifier-sourced schema kind (at // decimal p.0) p.1))))
 
   linkage-sourced : (schema : Schema) (kind rel : ℕ) (at : List ℕ) (d : Data) → IfErr (linkage schema kind rel at d) Sourced
   linkage-sourced schema kind rel at d =
-      test-err Sourced (is_many schema kind rel) (to_many schema (target_of schema kind rel) at d) (to_one schema (target_of schema kind rel) at d) (to_many-sourced schema (target_of schema kind rel) at d) (to_one-sourced schema (target_of schema kind rel) at d)
+      test-err Sourced (is_many schema kind rel) (many_linkage schema (target_of schema kind rel) at d) (one_linkage schema (target_of schema kind rel) at d) (many_linkage-sourced schema (target_of schema kind rel) at d) (one_linkage-sourced schema (target_of schema kind rel) at d)
 
   given_value-sourced : (schema : Schema) (kind : ℕ) (group : List ℕ) (m : List ℕ × Data) → IfErr (given_value schema kind group m) Sourced
   given_value-sourced schema kind group m =
@@ -330,7 +330,7 @@ module _ (in_list : Bool) where
 
   with_parameter-sourced : (schema : Schema) (kind : ℕ) (asked : Asked) (name value : List ℕ) (p : Parameter) → IfErr (with_parameter schema kind asked name value p) Asks
   with_parameter-sourced schema kind asked name value parameter.Include = map-err Asks _ (or_bad code.BadInclude name (paths_of schema kind value)) (ok_or-err Asks (paths_of schema kind value) (at_parameter code.BadInclude name) tt)
-  with_parameter-sourced schema kind asked name value parameter.Fields = map-err Asks _ (or_bad code.BadFields name (field_set_of schema (in_brackets name) value)) (ok_or-err Asks (field_set_of schema (in_brackets name) value) (at_parameter code.BadFields name) tt)
+  with_parameter-sourced schema kind asked name value parameter.Fields = map-err Asks _ (or_bad code.BadFields name (field_set_named schema name value)) (ok_or-err Asks (field_set_named schema name value) (at_parameter code.BadFields name) tt)
   with_parameter-sourced schema kind asked name value parameter.Sort = map-err Asks _ (or_bad code.BadSort name (sort_keys_of schema kind value)) (ok_or-err Asks (sort_keys_of schema kind value) (at_parameter code.BadSort name) tt)
   with_parameter-sourced schema kind asked name value parameter.PageSize = map-err Asks _ (or_bad code.BadPageSize name (page_size_of value)) (ok_or-err Asks (page_size_of value) (at_parameter code.BadPageSize name) tt)
   with_parameter-sourced schema kind asked name value parameter.PageAfter = tt
@@ -353,9 +353,8 @@ module _ (in_list : Bool) where
   query_of-sourced : (schema : Schema) (t : Target) (text : List ℕ) → IfErr (query_of schema t text) Asks
   query_of-sourced schema t text =
       bind-err Asks (with_pairs schema t (record { query = no_query; after = None; before = None }) (pairs_of text)) _ (with_pairs-sourced schema t (record { query = no_query; after = None; before = None }) (pairs_of text)) (λ asked.
-      then-err Asks (err_if (is_some asked.after && is_some asked.before) (at_parameter code.RangeUnsupported (codes "page[before]"))) _ (err_if-err Asks (is_some asked.after && is_some asked.before) (at_parameter code.RangeUnsupported (codes "page[before]")) refl)
-      (bind-err Asks (place_at (sort_forms schema (primary_kind schema t) asked.query.sort) (codes "page[after]") asked.after) _ (place_at-sourced (sort_forms schema (primary_kind schema t) asked.query.sort) (codes "page[after]") asked.after) (λ after.
-      bind-err Asks (place_at (sort_forms schema (primary_kind schema t) asked.query.sort) (codes "page[before]") asked.before) _ (place_at-sourced (sort_forms schema (primary_kind schema t) asked.query.sort) (codes "page[before]") asked.before) (λ before. tt))))
+      bind-err Asks (place_at (sort_forms schema (primary_kind schema t) asked.query.sort) (codes "page[after]") asked.after) _ (place_at-sourced (sort_forms schema (primary_kind schema t) asked.query.sort) (codes "page[after]") asked.after) (λ after.
+      bind-err Asks (place_at (sort_forms schema (primary_kind schema t) asked.query.sort) (codes "page[before]") asked.before) _ (place_at-sourced (sort_forms schema (primary_kind schema t) asked.query.sort) (codes "page[before]") asked.before) (λ before. tt)))
 
   no_parameter-sourced : (pairs : List (List ℕ × List ℕ)) → IfErr (none_or_err (no_parameter pairs)) Asks
   no_parameter-sourced [] = tt

@@ -1,5 +1,5 @@
 -- Cursors (Cursor Pagination profile, "Cursors"; what stands in them is of this project).
-use Rattle.std.specs.Prelude.{ℕ, Bool, IsTrue, IsUtf8, List, [], ◌∷◌, ◌++◌, map, Option, Some, None, ⊤}
+use Rattle.std.specs.Prelude.{ℕ, Bool, IsTrue, List, [], ◌∷◌, ◌++◌, map, Option, Some, None}
 use Rattle.std.specs.List.{AllZip}
 use Rattle.std.specs.Result.{result_ok}
 use Rattle.std.specs.Str.{bytes_eq}
@@ -10,8 +10,6 @@ use Rattle.serde_json.specs.Written.{compact_text}
 use Rattle.base64.specs.Engines.{url_safe_no_pad}
 use Rattle.base64.specs.GeneralPurpose.{encode_of, decode_of}
 use Rattle.resource_schema.specs.declared.values.Form.{Form}
-use Rattle.resource_schema.specs.declared.values.AttrValue.{AttrValue}
-use Rattle.resource_schema.specs.declared.values.AttrValue.TheVariants as value
 use Rattle.resource_schema.specs.declared.values.Place.{Place}
 use Rattle.resource_schema.specs.Forms.{has_form}
 use Rattle.request_model.specs.Words.{some_if}
@@ -31,13 +29,6 @@ cursor_text place = encode_of url_safe_no_pad (compact_text (place_data place))
 -- a place with one value of each form, null where the flag says so, and an id
 abbrev pub IsPlaceOf : List (Form × Bool) → Place → Type 0
 IsPlaceOf forms place = AllZip (λ f v. IsTrue (has_form f.0 f.1 v)) forms place.values × IsTrue (is_id place.id)
-
--- the texts among the values are UTF-8, as every `Text` is
-abbrev pub HasUtf8 : AttrValue → Type 0
-HasUtf8 value.Null = ⊤
-HasUtf8 (value.Int z) = ⊤
-HasUtf8 (value.Text t) = IsUtf8 t
-HasUtf8 (value.Bool b) = ⊤
 
 -- the place in an array: one value of each form, and then an id
 abbrev pub place_from : List (Form × Bool) → List Data → Option Place

@@ -3,7 +3,7 @@ use Rattle.std.specs.Prelude.{ℕ, ◌&&◌, ◌^◌, Bool, true, false, not, na
 use Rattle.std.specs.Option.{ok_or, option_or, option_map_or}
 use Rattle.std.specs.List.{list_all, enumerate_from}
 use Rattle.std.specs.Char.{is_ascii_digit}
-use Rattle.std.specs.Str.{bytes_eq}
+use Rattle.std.specs.Str.{bytes_eq, is_utf8}
 use Rattle.std.specs.Ordering.{nat_cmp}
 use Rattle.std.specs.FinMap.Entries.{find}
 use Rattle.serde_json.specs.Data.{Data, null, Members}
@@ -12,6 +12,7 @@ use Rattle.resource_schema.specs.declared.schema.Schema.{Schema}
 use Rattle.resource_schema.specs.declared.kinds.Attribute.{Attribute}
 use Rattle.resource_schema.specs.declared.values.AttrValue.{AttrValue}
 use Rattle.resource_schema.specs.declared.values.AttrValue.TheVariants as value
+use Rattle.task_forms.specs.declared.operations.TheConstants.{LID_LIMIT}
 use Rattle.task_forms.specs.declared.operations.Named.{Named}
 use Rattle.task_forms.specs.declared.operations.Named.TheVariants as named
 use Rattle.task_forms.specs.declared.operations.Where.{Where}
@@ -66,10 +67,10 @@ named_by kind None None = None
 abbrev pub named_in : ℕ → Data → Option Named
 named_in kind d = named_by kind (text_at (codes "id") d) (text_at (codes "lid") d)
 
--- an id keeps its rule; a local id is any text
+-- an id keeps its rule; a local id is any text, UTF-8
 abbrev pub keeps_rule : Named → Bool
 keeps_rule (named.Id key) = is_id key.id
-keeps_rule (named.Lid kind lid) = true
+keeps_rule (named.Lid kind lid) = is_utf8 lid
 
 -- a resource identifier of a type (JSON:API 1.1, "Resource Identifier Objects")
 abbrev pub identifier : Schema → ℕ → List ℕ → Data → Result Named Refusal
@@ -81,24 +82,24 @@ identifier schema kind at d = do
   Ok name
 
 -- null, or one identifier
-abbrev pub to_one : Schema → ℕ → List ℕ → Data → Result (List Member) Refusal
-to_one schema kind at null = Ok []
-to_one schema kind at d = result_map (λ n. record { named = n; index = None } ∷ []) (identifier schema kind at d)
+abbrev pub one_linkage : Schema → ℕ → List ℕ → Data → Result (List Member) Refusal
+one_linkage schema kind at null = Ok []
+one_linkage schema kind at d = result_map (λ n. record { named = n; index = None } ∷ []) (identifier schema kind at d)
 
 -- an identifier of an array, with its place
 abbrev pub indexed : Schema → ℕ → List ℕ → ℕ × Data → Result Member Refusal
 indexed schema kind at (n, d) = result_map (λ name. record { named = name; index = Some n }) (identifier schema kind (at // decimal n) d)
 
 -- an array of identifiers
-abbrev pub to_many : Schema → ℕ → List ℕ → Data → Result (List Member) Refusal
-to_many schema kind at d = do
+abbrev pub many_linkage : Schema → ℕ → List ℕ → Data → Result (List Member) Refusal
+many_linkage schema kind at d = do
   items ← ok_or (as_array d) (bad_document at)
   err_if (nat_le (2 ^ 32) (length (items_list items))) (bad_document at)
   all_ok (map (indexed schema kind at) (enumerate_from 0 (items_list items)))
 
 -- a linkage of a relationship, by its type and number
 abbrev pub linkage : Schema → ℕ → ℕ → List ℕ → Data → Result (List Member) Refusal
-linkage schema kind rel at d = if is_many schema kind rel then to_many schema (target_of schema kind rel) at d else to_one schema (target_of schema kind rel) at d
+linkage schema kind rel at d = if is_many schema kind rel then many_linkage schema (target_of schema kind rel) at d else one_linkage schema (target_of schema kind rel) at d
 
 -- ---- attributes and relationships (JSON:API 1.1, "Resource Objects")
 
@@ -166,9 +167,9 @@ client_id schema kind at (Some d) = do
   err_if (list_all is_ascii_digit id) (at_pointer code.ReservedId at)
   Ok (Some id)
 
--- a text of 1 to 64 bytes
+-- a text, UTF-8, of 1 to `LID_LIMIT` bytes
 abbrev pub is_lid : List ℕ → Bool
-is_lid lid = nat_lt 0 (length lid) && nat_le (length lid) 64
+is_lid lid = nat_lt 0 (length lid) && nat_le (length lid) LID_LIMIT && is_utf8 lid
 
 -- the local id that the client gave (JSON:API 1.1, "Identification")
 abbrev pub local_id : List ℕ → Option Data → Result (Option (List ℕ)) Refusal

@@ -15,6 +15,7 @@ use Rattle.resource_schema.specs.declared.targets.Target.{Target}
 use Rattle.resource_schema.specs.declared.targets.Target.TheVariants as target
 use Rattle.task_forms.specs.declared.operations.Operation.{Operation}
 use Rattle.task_forms.specs.declared.operations.Operation.TheVariants.{Remove, SetLinks, AddLinks, DropLinks}
+use Rattle.task_forms.specs.declared.tasks.TheConstants.{OPERATION_LIMIT}
 use Rattle.error_objects.specs.declared.codes.Code.TheVariants as code
 use Rattle.error_objects.specs.declared.refusals.Refusal.{Refusal}
 use Rattle.request_model.specs.declared.forms.Op.{Op}
@@ -161,7 +162,7 @@ absent name d = err_if (is_some (get name d)) (bad_document ([] // name))
 abbrev pub list_pointer : List ℕ
 list_pointer = codes "/atomic:operations"
 
--- at most 1,000 operations, each in order (Atomic Operations extension, "Document Structure"; the limit is of this project)
+-- at most `OPERATION_LIMIT` operations, each in order (Atomic Operations extension, "Document Structure"; the limit is of this project)
 abbrev pub operations_of : Schema → Data → Result (List Operation) Refusal
 operations_of schema d = do
   object_at [] d
@@ -171,5 +172,5 @@ operations_of schema d = do
   found ← ok_or (get (codes "atomic:operations") d) (bad_document [])
   items ← ok_or (as_array found) (bad_document list_pointer)
   err_if (length (items_list items) == 0) (bad_document list_pointer)
-  err_if (nat_lt 1000 (length (items_list items))) (at_pointer code.TooManyOperations list_pointer)
+  err_if (nat_lt OPERATION_LIMIT (length (items_list items))) (at_pointer code.TooManyOperations list_pointer)
   all_ok (map (λ p. operation_of schema (list_pointer // decimal p.0) p.1) (enumerate_from 0 (items_list items)))

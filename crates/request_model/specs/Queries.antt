@@ -1,5 +1,5 @@
 -- Queries (JSON:API 1.1, "Query Parameters"; Cursor Pagination profile, "Query Parameters"; limits and the order of faults are of this project).
-use Rattle.std.specs.Prelude.{ℕ, ◌-◌, ◌&&◌, ◌==◌, Bool, true, false, not, nat_eq, nat_le, if◌then◌else◌, List, [], ◌∷◌, ◌++◌, codes, length, map, take, drop, nat_lt, is_some, Option, Some, None, Result, Ok, option_map, slice_get}
+use Rattle.std.specs.Prelude.{ℕ, ◌+◌, ◌-◌, ◌&&◌, ◌==◌, Bool, true, false, not, nat_eq, nat_le, if◌then◌else◌, List, [], ◌∷◌, ◌++◌, codes, length, map, take, drop, nat_lt, is_some, Option, Some, None, Result, Ok, option_map, slice_get}
 use Rattle.std.specs.Option.{ok_or}
 use Rattle.std.specs.List.{list_all, list_any, ends_with, filter_map}
 use Rattle.std.specs.Char.{is_ascii_digit}
@@ -15,6 +15,7 @@ use Rattle.request_model.specs.declared.forms.Parameter.{Parameter}
 use Rattle.request_model.specs.declared.forms.Parameter.TheVariants as parameter
 use Rattle.resource_schema.specs.declared.targets.Target.{Target}
 use Rattle.resource_schema.specs.declared.targets.Target.TheVariants as target
+use Rattle.task_forms.specs.declared.queries.TheConstants.{PAGE_SIZE_LIMIT, SORT_LIMIT, PATH_LIMIT, PATH_LENGTH_LIMIT}
 use Rattle.task_forms.specs.declared.queries.Path.{Path}
 use Rattle.task_forms.specs.declared.queries.SortKey.{SortKey}
 use Rattle.task_forms.specs.declared.queries.Query.{Query}
@@ -41,13 +42,10 @@ pairs_of query = map (λ p. (text_of p.0, text_of p.1)) (raw_pairs query)
 
 -- ---- parameters of an endpoint
 
--- the name is `fields[..]` (JSON:API 1.1, "Query Parameter Families")
-abbrev pub names_fields : List ℕ → Bool
-names_fields name = begins (codes "fields[") name && ends_with nat_eq name (codes "]")
-
--- what stands in the brackets of `fields[..]`
-abbrev pub in_brackets : List ℕ → List ℕ
-in_brackets name = drop 7 (take (length name - 1) name)
+-- what stands in the brackets of a parameter of a family, `family[..]` (JSON:API 1.1, "Query Parameter Families")
+abbrev pub in_brackets : List ℕ → List ℕ → Option (List ℕ)
+in_brackets family name =
+    some_if (begins (family ++ codes "[") name && ends_with nat_eq name (codes "]")) (drop (length family + 1) (take (length name - 1) name))
 
 -- the parameter of a name, whatever its target
 abbrev pub parameter_of : List ℕ → Option Parameter
@@ -57,7 +55,7 @@ parameter_of name =
     else (if bytes_eq name (codes "page[size]") then Some parameter.PageSize
     else (if bytes_eq name (codes "page[after]") then Some parameter.PageAfter
     else (if bytes_eq name (codes "page[before]") then Some parameter.PageBefore
-    else some_if (names_fields name) parameter.Fields))))
+    else some_if (is_some (in_brackets (codes "fields") name)) parameter.Fields))))
 
 -- the target answers with resources
 abbrev pub has_resources : Target → Bool
@@ -108,19 +106,23 @@ rels_from schema kind [] = Some []
 rels_from schema kind (name ∷ names) = option.◌>>=◌ (relationship_of schema kind name)
     (λ rel. option_map (λ rels. rel ∷ rels) (rels_from schema (target_of schema kind rel) names))
 
--- a path of at most 8 names
+-- a path of at most `PATH_LENGTH_LIMIT` names
 abbrev pub path_of : Schema → ℕ → List ℕ → Option Path
 path_of schema kind text =
     let names = parts_at dot text in
-    option_map (λ rels. record { rels = rels }) (if nat_le (length names) 8 then rels_from schema kind names else None)
+    option_map (λ rels. record { rels = rels }) (if nat_le (length names) PATH_LENGTH_LIMIT then rels_from schema kind names else None)
 
--- at most 16 paths (JSON:API 1.1, "Inclusion of Related Resources")
+-- at most `PATH_LIMIT` paths (JSON:API 1.1, "Inclusion of Related Resources")
 abbrev pub paths_of : Schema → ℕ → List ℕ → Option (List Path)
-paths_of schema kind value = if nat_le (length (listed value)) 16 then all_some (map (path_of schema kind) (listed value)) else None
+paths_of schema kind value = if nat_le (length (listed value)) PATH_LIMIT then all_some (map (path_of schema kind) (listed value)) else None
 
 -- fields of one type (JSON:API 1.1, "Sparse Fieldsets")
 abbrev pub field_set_of : Schema → List ℕ → List ℕ → Option (ℕ × List (List ℕ))
 field_set_of schema name value = option.◌>>=◌ (number_of_kind schema name) (λ kind. some_if (list_all (is_field schema kind) (listed value)) (kind, listed value))
+
+-- fields of the type in the brackets of `fields[..]`
+abbrev pub field_set_named : Schema → List ℕ → List ℕ → Option (ℕ × List (List ℕ))
+field_set_named schema name value = option.◌>>=◌ (in_brackets (codes "fields") name) (λ type. field_set_of schema type value)
 
 -- an attribute, and before it `-` for descending order
 abbrev pub sort_key_of : Schema → ℕ → List ℕ → Option SortKey
@@ -133,16 +135,20 @@ abbrev pub are_distinct : List ℕ → Bool
 are_distinct [] = true
 are_distinct (n ∷ ns) = not (list_any (nat_eq n) ns) && are_distinct ns
 
--- at most 8 attributes, none twice (JSON:API 1.1, "Sorting")
+-- at most `SORT_LIMIT` attributes, none twice (JSON:API 1.1, "Sorting")
 abbrev pub sort_keys_of : Schema → ℕ → List ℕ → Option (List SortKey)
 sort_keys_of schema kind value = option.◌>>=◌ (all_some (map (sort_key_of schema kind) (parts_at comma value)))
-    (λ keys. some_if (nat_le (length keys) 8 && are_distinct (map (λ k. k.attribute) keys)) keys)
+    (λ keys. some_if (nat_le (length keys) SORT_LIMIT && are_distinct (map (λ k. k.attribute) keys)) keys)
 
--- 1 to 9 digits, from 1 to 200 (Cursor Pagination profile, "page[size]"; the limit is of this project)
+-- the most digits of a page size
+abbrev pub size_digits : ℕ
+size_digits = 9
+
+-- 1 to 9 digits, from 1 to `PAGE_SIZE_LIMIT` (Cursor Pagination profile, "page[size]"; the limits are of this project)
 abbrev pub page_size_of : List ℕ → Option ℕ
 page_size_of value =
     let n = digits_value 10 value in
-    some_if (nat_lt 0 (length value) && nat_le (length value) 9 && list_all is_ascii_digit value && nat_le 1 n && nat_le n 200) n
+    some_if (nat_lt 0 (length value) && nat_le (length value) size_digits && list_all is_ascii_digit value && nat_le 1 n && nat_le n PAGE_SIZE_LIMIT) n
 
 -- ---- reading from left to right
 
@@ -159,7 +165,7 @@ abbrev pub with_parameter : Schema → ℕ → Asked → List ℕ → List ℕ �
 with_parameter schema kind asked name value parameter.Include =
     result_map (λ paths. with_query asked (record asked.query { include = Some paths })) (or_bad code.BadInclude name (paths_of schema kind value))
 with_parameter schema kind asked name value parameter.Fields =
-    result_map (λ fs. with_query asked (record asked.query { fields = asked.query.fields ++ fs ∷ [] })) (or_bad code.BadFields name (field_set_of schema (in_brackets name) value))
+    result_map (λ fs. with_query asked (record asked.query { fields = asked.query.fields ++ fs ∷ [] })) (or_bad code.BadFields name (field_set_named schema name value))
 with_parameter schema kind asked name value parameter.Sort =
     result_map (λ keys. with_query asked (record asked.query { sort = keys })) (or_bad code.BadSort name (sort_keys_of schema kind value))
 with_parameter schema kind asked name value parameter.PageSize =
@@ -199,7 +205,6 @@ place_at forms name (Some text) = result_map Some (or_bad code.BadCursor name (p
 abbrev pub query_of : Schema → Target → List ℕ → Result Query Refusal
 query_of schema t text = do
   asked ← with_pairs schema t (record { query = no_query; after = None; before = None }) (pairs_of text)
-  err_if (is_some asked.after && is_some asked.before) (at_parameter code.RangeUnsupported (codes "page[before]"))
   let forms = sort_forms schema (primary_kind schema t) asked.query.sort
   after ← place_at forms (codes "page[after]") asked.after
   before ← place_at forms (codes "page[before]") asked.before

@@ -6,6 +6,7 @@ use Rattle.std.specs.Str.{bytes_eq}
 use Rattle.serde_json.specs.Data.{Data}
 use Rattle.serde_json.specs.Find.{get, as_object, as_bool}
 use Rattle.resource_schema.specs.declared.schema.Schema.{Schema}
+use Rattle.resource_schema.specs.declared.kinds.TheConstants.{KIND_LIMIT, ATTRIBUTE_LIMIT, RELATIONSHIP_LIMIT}
 use Rattle.resource_schema.specs.declared.kinds.Kind.{Kind}
 use Rattle.resource_schema.specs.declared.kinds.Attribute.{Attribute}
 use Rattle.resource_schema.specs.declared.kinds.Relationship.{Relationship}
@@ -100,13 +101,13 @@ relationship_from kinds attributes group (name, d) = do
 -- the attributes of a type, each in order
 abbrev pub attributes_at : List ℕ → Data → Result (List Attribute) SchemaFault
 attributes_at at d = do
-  own ← fields_at (at // codes "attributes") 64 (get (codes "attributes") d)
+  own ← fields_at (at // codes "attributes") ATTRIBUTE_LIMIT (get (codes "attributes") d)
   all_ok (map (attribute_from (at // codes "attributes")) own)
 
 -- the relationships of a type whose attributes have these names, each in order
 abbrev pub relationships_at : List (List ℕ) → List (List ℕ) → List ℕ → Data → Result (List Relationship) SchemaFault
 relationships_at kinds attributes at d = do
-  linked ← fields_at (at // codes "relationships") 32 (get (codes "relationships") d)
+  linked ← fields_at (at // codes "relationships") RELATIONSHIP_LIMIT (get (codes "relationships") d)
   all_ok (map (relationship_from kinds attributes (at // codes "relationships")) linked)
 
 -- one type: its name, itself as an object, `client-ids`, `attributes`, `relationships`
@@ -126,7 +127,7 @@ schema_of d = do
   object_at (codes "/") (Some d)
   types ← object_at (codes "/types") (get (codes "types") d)
   err_if (length types == 0) (fault (codes "/types") why.Empty)
-  err_if (nat_lt 64 (length types)) (fault (codes "/types") why.Limit)
+  err_if (nat_lt KIND_LIMIT (length types)) (fault (codes "/types") why.Limit)
   all_ok (map (kind_from (map (λ t. t.0) types)) types)
 
 -- the schema of a file

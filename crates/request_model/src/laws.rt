@@ -1,6 +1,5 @@
 //! Laws of the definitions in specs/. Each is the contract of a function that does nothing: call it to have the fact.
 
-ghost use Rattle.std.specs.List.{AllByRecursion};
 ghost use Rattle.std.specs.Prelude.{◌≡◌, Bool, Err, List, Ok, Some, true, ℕ};
 ghost use Rattle.error_objects.specs.declared.refusals.Refusal.{Refusal};
 ghost use Rattle.error_objects.specs.Refusals.{IsSourced};
@@ -15,7 +14,7 @@ ghost use Rattle.resource_schema.specs.SchemaRules.{is_schema};
 ghost use Rattle.task_forms.specs.declared.tasks.Plan.TheVariants.{Run};
 ghost use Rattle.task_forms.specs.declared.tasks.Task.{Task};
 ghost use Rattle.task_forms.specs.Fit.{IsFit};
-ghost use Rattle.request_model.specs.Cursors.{HasUtf8, IsPlaceOf, cursor_text, place_of_cursor};
+ghost use Rattle.request_model.specs.Cursors.{IsPlaceOf, cursor_text, place_of_cursor};
 ghost use Rattle.request_model.specs.Plans.{is_list, planned, task_of};
 ghost use Rattle.request_model.specs.SchemaFile.{schema_of, SchemaNamesRise};
 ghost use Rattle.request_model.specs.Targets.{IsKnownTarget, target_of_path};
@@ -50,7 +49,7 @@ pub fn cursor_has_one_spelling()
 
 /// The text of a place with a value of each form is accepted as a cursor, and gives the place.
 pub fn cursor_is_read_back()
-    ensures { (forms : List (Form × Bool)) (place : Place) → IsPlaceOf forms place → AllByRecursion HasUtf8 place.values → place_of_cursor forms (cursor_text place) ≡ Some place }
+    ensures { (forms : List (Form × Bool)) (place : Place) → IsPlaceOf forms place → place_of_cursor forms (cursor_text place) ≡ Some place }
 {
     rendered_is_read_back();
     rendered_is_utf8();

@@ -2,7 +2,7 @@ ghost use Rattle.std.specs.Prelude.{◌≡◌, ◌<◌, ◌^◌, length, map, op
 ghost use Rattle.std.specs.List.{enumerate_from};
 ghost use Rattle.serde_json.specs.View.{view};
 ghost use Rattle.request_model.specs.Words.{all_ok};
-ghost use Rattle.request_model.specs.Documents.{to_one, to_many, indexed, linkage};
+ghost use Rattle.request_model.specs.Documents.{one_linkage, many_linkage, indexed, linkage};
 ghost use Rattle.ident_rules.specs.StepErrors.{Gives};
 ghost use Rattle.resource_reader.specs.Arrays.{many_of};
 
@@ -24,7 +24,7 @@ fn read_to_one(
     at: &str,
     value: &Value,
 ) -> Result<List<Member>, StepError<Refusal>>
-    ensures { Gives result (to_one schema.now kind at.now (view value.now)) }
+    ensures { Gives result (one_linkage schema.now kind at.now (view value.now)) }
 {
     let mut members = Vec::new(alloc);
     match value {
@@ -101,7 +101,7 @@ fn read_to_many(
     at: &str,
     value: &Value,
 ) -> Result<List<Member>, StepError<Refusal>>
-    ensures { Gives result (to_many schema.now kind at.now (view value.now)) }
+    ensures { Gives result (many_linkage schema.now kind at.now (view value.now)) }
 {
     match value.as_array() {
         Some(values) => read_array(alloc, schema, kind, at, values),

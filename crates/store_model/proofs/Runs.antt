@@ -10,7 +10,7 @@ use Rattle.world_cells.specs.World.{World, row_at}
 use Rattle.error_objects.specs.declared.refusals.Blame.{Blame}
 use Rattle.error_objects.specs.declared.refusals.Blame.TheVariants as blame
 use Rattle.error_objects.specs.declared.refusals.Refusal.{Refusal}
-use Rattle.error_objects.specs.Codes.{Source, no_source, some_pointer, pointer_in_list, some_parameter, parameter, some_header, header, told}
+use Rattle.error_objects.specs.Codes.{Source, no_source, some_pointer, pointer_in_list, some_parameter, some_header, header, told}
 use Rattle.error_objects.specs.Refusals.{IsSource, IsSourced}
 use Rattle.task_forms.specs.declared.operations.Operation.{Operation}
 use Rattle.task_forms.specs.declared.tasks.ReplyForm.{ReplyForm}
@@ -135,7 +135,6 @@ under_source in_list some_parameter at (blame.Pointer p) h = h
 under_source in_list some_parameter at (blame.Parameter p) h = h
 under_source in_list some_parameter at (blame.Header p) h = h
 under_source in_list some_parameter at blame.Nothing h = h
-under_source in_list (parameter name) at b h = ap (blame_under at) h
 under_source in_list some_header at (blame.Pointer p) h = h
 under_source in_list some_header at (blame.Parameter p) h = h
 under_source in_list some_header at (blame.Header p) h = h

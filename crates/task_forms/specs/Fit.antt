@@ -1,16 +1,20 @@
 -- Which tasks are fit for a schema: what a store may be asked (of this project).
-use Rattle.std.specs.Prelude.{◌≡◌, ℕ, ◌+◌, ◌<◌, ◌≤◌, ◌^◌, Bool, true, false, IsTrue, List, [], ◌∷◌, map, length, is_some, Some, None, MatchOption, IfSome, Option, ⊤, slice_get, option_map}
+use Rattle.std.specs.Prelude.{◌≡◌, ℕ, ◌+◌, ◌<◌, ◌≤◌, ◌^◌, Bool, true, false, IsTrue, List, [], ◌∷◌, map, length, Some, None, MatchOption, IfSome, Option, ⊤, slice_get, option_map}
 use Rattle.std.specs.List.{AllByRecursion, AllZip}
 use Rattle.std.specs.Str.Parse.{AllDigits}
+use Rattle.std.specs.Str.{is_utf8}
 use Rattle.ident_rules.specs.declared.key.Key.{Key}
 use Rattle.resource_schema.specs.declared.schema.Schema.{Schema}
 use Rattle.resource_schema.specs.declared.values.AttrValue.{AttrValue}
 use Rattle.resource_schema.specs.declared.values.Place.{Place}
+use Rattle.task_forms.specs.declared.operations.TheConstants.{LID_LIMIT}
 use Rattle.task_forms.specs.declared.operations.Named.{Named}
 use Rattle.task_forms.specs.declared.operations.Named.TheVariants as named
 use Rattle.task_forms.specs.declared.operations.Member.{Member}
 use Rattle.task_forms.specs.declared.queries.SortKey.{SortKey}
+use Rattle.task_forms.specs.declared.queries.Page.{Page}
 use Rattle.task_forms.specs.declared.queries.Query.{Query}
+use Rattle.task_forms.specs.declared.tasks.TheConstants.{OPERATION_LIMIT}
 use Rattle.task_forms.specs.declared.tasks.Fetch.{Fetch}
 use Rattle.resource_schema.specs.declared.targets.Target.TheVariants as target
 use Rattle.task_forms.specs.declared.tasks.ReplyForm.{ReplyForm}
@@ -42,14 +46,18 @@ kind_of (named.Lid kind lid) = kind
 abbrev pub IsKnownKey : Schema → Key → Type 0
 IsKnownKey schema key = (key.kind < length schema) × IsId key.id
 
--- a new resource's local id has 1 to 64 bytes
-abbrev pub IsLid : List ℕ → Type 0
-IsLid lid = (0 < length lid) × (length lid ≤ 64)
+-- UTF-8
+abbrev pub IsText : List ℕ → Type 0
+IsText text = IsTrue (is_utf8 text)
 
--- A local id that stands for a resource may have any length; where it is not bound, the store says so.
+-- a new resource's local id is a text of 1 to `LID_LIMIT` bytes
+abbrev pub IsLid : List ℕ → Type 0
+IsLid lid = (0 < length lid) × (length lid ≤ LID_LIMIT) × IsText lid
+
+-- A local id that stands for a resource is a text of any length; where it is not bound, the store says so.
 abbrev pub IsNamed : Schema → Named → Type 0
 IsNamed schema (named.Id key) = IsKnownKey schema key
-IsNamed schema (named.Lid kind lid) = kind < length schema
+IsNamed schema (named.Lid kind lid) = (kind < length schema) × IsText lid
 
 -- a client's id is not of digits alone, and its type has client ids
 pub record FitsClientId (schema : Schema) (kind : ℕ) (id : List ℕ) : Type 0 where
@@ -113,7 +121,7 @@ FitsForm reply_form.Created _ = ⊥
 FitsForm reply_form.Updated (Update who values links ∷ []) = ⊤
 FitsForm reply_form.Updated _ = ⊥
 FitsForm reply_form.Empty operations = length operations ≡ 1
-FitsForm reply_form.Results operations = (1 ≤ length operations) × (length operations ≤ 1000)
+FitsForm reply_form.Results operations = (1 ≤ length operations) × (length operations ≤ OPERATION_LIMIT)
 
 -- ---- fetches
 
@@ -125,13 +133,16 @@ FollowsFrom schema kind (rel ∷ path) = MatchOption (slice_get (relationships_o
 abbrev pub FitsCursor : Schema → ℕ → List SortKey → Place → Type 0
 FitsCursor schema kind sort place = AllZip (λ s v. FitsValue schema kind (s.attribute, v)) sort place.values × IsId place.id
 
+-- a page of resources of a type in an order; it may have both cursors
+pub record FitsPage (schema : Schema) (kind : ℕ) (sort : List SortKey) (page : Page) : Type 0 where
+  pub keys : AllByRecursion (λ s. s.attribute < length (attributes_of schema kind)) sort
+  pub size : page.size < 2 ^ 16
+  pub after : IfSome page.after (FitsCursor schema kind sort)
+  pub before : IfSome page.before (FitsCursor schema kind sort)
+
 -- a query whose primary data is of a type
 pub record FitsQuery (schema : Schema) (kind : ℕ) (query : Query) : Type 0 where
-  pub sort : AllByRecursion (λ s. s.attribute < length (attributes_of schema kind)) query.sort
-  pub size : query.page.size < 2 ^ 16
-  pub one_cursor : IsTrue (is_some query.page.after) → query.page.before ≡ None
-  pub after : IfSome query.page.after (FitsCursor schema kind query.sort)
-  pub before : IfSome query.page.before (FitsCursor schema kind query.sort)
+  pub page : FitsPage schema kind query.sort query.page
   pub paths : IfSome query.include (AllByRecursion (λ p. FollowsFrom schema kind p.rels))
   pub fields : AllByRecursion (λ f. f.0 < length schema) query.fields
 

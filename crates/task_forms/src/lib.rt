@@ -11,8 +11,8 @@ mod tasks;
 mod tests;
 
 pub use desk::{Desk, DeskEnd};
-pub use operations::{Member, Named, Operation, Where, Who};
+pub use operations::{LID_LIMIT, Member, Named, Operation, Where, Who};
 pub use planner::Planner;
-pub use queries::{Page, Path, Query, SortKey};
+pub use queries::{DEFAULT_PAGE_SIZE, PAGE_SIZE_LIMIT, PATH_LENGTH_LIMIT, PATH_LIMIT, Page, Path, Query, SORT_LIMIT, SortKey};
 pub use resource_schema::Target;
-pub use tasks::{Entry, Fetch, Plan, ReplyForm, Task};
+pub use tasks::{Entry, Fetch, OPERATION_LIMIT, Plan, ReplyForm, Task};

@@ -1,6 +1,9 @@
 use ident_rules::{Id, Key, List, Text};
 use resource_schema::AttrValue;
 
+/// The most bytes of the local id that a request gives a new resource.
+pub const LID_LIMIT: usize = 64;
+
 /// How a request names a resource (JSON:API 1.1, "Identification").
 #[derive(Debug, Drop)]
 pub enum Named {
@@ -66,7 +69,7 @@ pub enum Operation {
         kind: u32,
         /// The id that the client chose, or none where the server is to give one.
         id: Option<Id>,
-        /// Its local id in this request.
+        /// Its local id in this request, of 1 to `LID_LIMIT` bytes.
         lid: Option<Text>,
         /// A value for each attribute.
         values: List<AttrValue>,

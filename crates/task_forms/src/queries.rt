@@ -2,6 +2,21 @@ use ident_rules::{List, Name, Text};
 use resource_schema::Place;
 use std::alloc::Global;
 
+/// The most resources that a page shows where no size is asked for.
+pub const DEFAULT_PAGE_SIZE: u16 = 50;
+
+/// The greatest size of a page that may be asked for.
+pub const PAGE_SIZE_LIMIT: u16 = 1_000;
+
+/// The most keys of an order.
+pub const SORT_LIMIT: usize = 8;
+
+/// The most paths to include.
+pub const PATH_LIMIT: usize = 16;
+
+/// The most relationships of a path to include.
+pub const PATH_LENGTH_LIMIT: usize = 8;
+
 /// A path of relationships from the primary resources on (JSON:API 1.1, "Inclusion of Related Resources").
 #[derive(Debug, Drop)]
 pub struct Path {
@@ -23,16 +38,16 @@ pub struct SortKey {
 pub struct Page {
     /// The most resources that it shows.
     pub size: u16,
-    /// Only places behind this one.
+    /// Only places behind this one, where it is given.
     pub after: Option<Place>,
-    /// Only places before this one.
+    /// Only places before this one, where it is given. Both may be.
     pub before: Option<Place>,
 }
 
 /// What the query of a fetch says (JSON:API 1.1, "Query Parameters").
 #[derive(Drop)]
 pub struct Query {
-    /// The decoded pairs but the cursors, in their order. The links of a page repeat them.
+    /// The decoded pairs, the cursors among them, in their order. The links of a page repeat all but the cursors.
     pub pairs: List<(Text, Text)>,
     /// The paths to include, where `include` is given.
     pub include: Option<List<Path>>,
@@ -48,7 +63,7 @@ impl Query {
     ghost use Rattle.std.specs.Prelude.{◌≡◌};
     ghost use Rattle.task_forms.specs.Queries.{no_query};
 
-    /// The query that asks for nothing: a page of 50 resources from the first on, in the order of their ids, each with all
+    /// The query that asks for nothing: a page of `DEFAULT_PAGE_SIZE` resources from the first on, in the order of their ids, each with all
     /// its fields. Takes no memory.
     pub fn none(alloc: Global) -> Query
         ensures { result ≡ no_query }
@@ -59,7 +74,7 @@ impl Query {
             fields: List::from_vec(Vec::new(alloc)),
             sort: List::from_vec(Vec::new(alloc)),
             page: Page {
-                size: 50,
+                size: DEFAULT_PAGE_SIZE,
                 after: None,
                 before: None,
             },

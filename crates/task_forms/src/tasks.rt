@@ -3,6 +3,9 @@ use http_messages::Reply;
 use ident_rules::List;
 use resource_schema::Target;
 
+/// The most operations of a list.
+pub const OPERATION_LIMIT: usize = 1_000;
+
 /// A request that reads (JSON:API 1.1, "Fetching Data").
 #[derive(Drop)]
 pub struct Fetch {
@@ -30,7 +33,7 @@ pub enum ReplyForm {
 pub enum Task {
     /// Reads.
     Fetch(Fetch),
-    /// Changes: all operations, or none where one is refused.
+    /// Changes: all operations, at most `OPERATION_LIMIT`, or none where one is refused.
     Change {
         /// The operations in their order.
         operations: List<Operation>,
