@@ -15,7 +15,7 @@ use json_forms::{member, text_of};
 use resource_schema::Schema;
 use serde_json::Value;
 use std::alloc::Global;
-use task_forms::Operation;
+use task_forms::{LID_LIMIT, Operation};
 
 /// The type of the endpoint, or in a list the type that the data names.
 fn kind_named(
@@ -84,11 +84,11 @@ fn client_id(
     Ok(Some(id))
 }
 
-/// Whether a text has 1 to 64 bytes.
+/// Whether a text has 1 to `LID_LIMIT` bytes.
 fn is_lid(text: &str) -> bool
     ensures { result ≡ is_lid text.now }
 {
-    !text.is_empty() && text.len() <= 64
+    !text.is_empty() && text.len() <= LID_LIMIT
 }
 
 /// The local id that the client gave (JSON:API 1.1, "Identification").

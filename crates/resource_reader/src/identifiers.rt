@@ -1,4 +1,5 @@
-ghost use Rattle.std.specs.Prelude.{◌≡◌, option_map, ℕ};
+ghost use Rattle.std.specs.Prelude.{◌≡◌, IfOk, option_map, true, ℕ};
+ghost use Rattle.std.specs.Str.{is_utf8};
 ghost use Rattle.serde_json.specs.View.{view};
 ghost use Rattle.request_model.specs.Documents.{named_in, identifier};
 ghost use Rattle.ident_rules.specs.StepErrors.{Gives};
@@ -7,7 +8,7 @@ ghost use Rattle.resource_reader.specs.Names.{named_by_name};
 use crate::parts::id_of;
 use crate::refusals::{bad_document, refuse_in};
 use error_objects::{Code, Refusal};
-use ident_rules::{Key, StepError, Text};
+use ident_rules::{Key, NoMemory, StepError, Text};
 use json_forms::text_at;
 use resource_schema::Schema;
 use serde_json::Value;
@@ -36,6 +37,14 @@ pub fn name_in(value: &Value) -> Option<NameText<'_>>
     }
 }
 
+/// A local id as a text of its own.
+pub fn lid_text(alloc: Global, lid: &str) -> Result<Text, NoMemory>
+    ensures text { IfOk result (λ t. t ≡ lid.now) }
+    ensures utf8 { is_utf8 lid.now ≡ true }
+{
+    Text::from_str(alloc, lid)
+}
+
 /// A resource identifier of a type (JSON:API 1.1, "Resource Identifier Objects").
 pub fn read_identifier(
     alloc: Global,
@@ -56,7 +65,7 @@ pub fn read_identifier(
         return Err(refuse_in(alloc, Code::WrongTarget, at, "type"));
     }
     match name {
-        NameText::Lid(lid) => Ok(Named::Lid(kind, Text::from_str(alloc, lid)?)),
+        NameText::Lid(lid) => Ok(Named::Lid(kind, lid_text(alloc, lid)?)),
         NameText::Id(text) => match id_of(text) {
             Some(id) => Ok(Named::Id(Key { kind, id })),
             None => Err(refuse_in(alloc, Code::RelatedNotFound, at, "id")),

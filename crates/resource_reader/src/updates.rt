@@ -11,12 +11,12 @@ ghost use Rattle.resource_reader.specs.Names.{named_by_name};
 
 use crate::creates::resource_kind;
 use crate::fields::read_given_links;
-use crate::identifiers::NameText;
+use crate::identifiers::{NameText, lid_text};
 use crate::parts::id_of;
 use crate::refusals::{bad_document, refuse_in};
 use crate::values::read_given_values;
 use error_objects::{Code, Refusal};
-use ident_rules::{Key, StepError, Text};
+use ident_rules::{Key, StepError};
 use json_forms::{member, text_of};
 use resource_schema::Schema;
 use serde_json::Value;
@@ -112,7 +112,7 @@ fn own_target(alloc: Global, kind: u32, at: &str, name: NameText<'_>) -> Result<
     ensures { Gives result (target_of_update None at.now (named_by_name kind name.entry)) }
 {
     let named = match name {
-        NameText::Lid(lid) => Named::Lid(kind, Text::from_str(alloc, lid)?),
+        NameText::Lid(lid) => Named::Lid(kind, lid_text(alloc, lid)?),
         NameText::Id(text) => match id_of(text) {
             Some(id) => Named::Id(Key { kind, id }),
             None => return Err(refuse_in(alloc, Code::NotFound, at, "id")),

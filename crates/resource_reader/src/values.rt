@@ -3,6 +3,7 @@ ghost use Rattle.std.specs.List.{enumerate_from};
 ghost use Rattle.std.specs.Ordering.{nat_cmp};
 ghost use Rattle.std.specs.FinMap.Entries.{find};
 ghost use Rattle.serde_json.specs.View.{view};
+ghost use Rattle.resource_schema.specs.declared.kinds.TheConstants.{ATTRIBUTE_LIMIT};
 ghost use Rattle.request_model.specs.Words.{all_ok, all_some};
 ghost use Rattle.request_model.specs.Documents.{given_value, given_values, value_or_default, all_values};
 ghost use Rattle.document_parts.specs.Walks.{members_in};
@@ -136,7 +137,7 @@ fn values_of(
     attributes: &[Attribute],
     given: &[(u32, AttrValue)],
 ) -> Result<Option<List<AttrValue>>, NoMemory>
-    requires few { length attributes.now ≤ 64 }
+    requires few { length attributes.now ≤ ATTRIBUTE_LIMIT }
     ensures { IfOk result (λ o. o ≡ all_some (map (value_or_default given.now) (enumerate_from 0 attributes.now))) }
 {
     let mut values = Vec::with_capacity(alloc, attributes.len())?;

@@ -6,6 +6,7 @@ ghost use Rattle.resource_schema.specs.SchemaRules.{is_one_of};
 ghost use Rattle.request_model.specs.SchemaFile.{form_of, many_of, attribute_from, relationship_from};
 ghost use Rattle.schema_file.specs.Finds.{Finds};
 ghost use Rattle.schema_file.specs.Walks.{form_at, many_at, target_at};
+ghost use Rattle.resource_schema.specs.declared.kinds.TheConstants.{KIND_LIMIT};
 
 use crate::SchemaEnd;
 use crate::faults::fault;
@@ -71,7 +72,7 @@ fn place_of(kinds: &[Text], name: &str) -> Option<usize>
 
 /// The number of the type that a relationship leads to.
 fn target_at(alloc: Global, kinds: &[Text], at: &str, value: &Value) -> Result<u32, SchemaEnd>
-    requires few { length kinds.now ≤ 64 }
+    requires few { length kinds.now ≤ KIND_LIMIT }
     ensures { Finds result (target_at kinds.now at.now (view value.now)) }
 {
     if let Some(name) = text_at(value, "target") {
@@ -127,7 +128,7 @@ pub fn read_relationship(
     text: &str,
     value: &Value,
 ) -> Result<Relationship, SchemaEnd>
-    requires few { length kinds.now ≤ 64 }
+    requires few { length kinds.now ≤ KIND_LIMIT }
     ensures { Finds result (relationship_from kinds.now (map (λ a. a.name) attributes.now) group.now (text.now, view value.now)) }
 {
     let at = member_pointer(alloc, group, text)?;

@@ -6,6 +6,7 @@ ghost use Rattle.request_model.specs.SchemaFile.{attribute_from, relationship_fr
 ghost use Rattle.schema_file.specs.Finds.{Finds};
 ghost use Rattle.document_parts.specs.Walks.{members_in};
 ghost use Rattle.schema_file.specs.Walks.{fields_in};
+ghost use Rattle.resource_schema.specs.declared.kinds.TheConstants.{KIND_LIMIT};
 
 use crate::SchemaEnd;
 use crate::faults::fault;
@@ -16,7 +17,7 @@ use document_parts::member_pointer;
 use ident_rules::{List, NoMemory, Text};
 use json_forms::member;
 use request_model::read_schema_keeps_rules;
-use resource_schema::{Attribute, Kind, Relationship, Schema, Why};
+use resource_schema::{ATTRIBUTE_LIMIT, Attribute, KIND_LIMIT, Kind, RELATIONSHIP_LIMIT, Relationship, Schema, Why};
 use serde_json::{Map, Value};
 use std::alloc::Global;
 
@@ -46,7 +47,7 @@ fn read_relationships(
     group: &str,
     members: &Map<String, Value>,
 ) -> Result<List<Relationship>, SchemaEnd>
-    requires few { length kinds.now ≤ 64 }
+    requires few { length kinds.now ≤ KIND_LIMIT }
     ensures { Finds result (all_ok (map (relationship_from kinds.now (map (λ a. a.name) attributes.now) group.now) (members_in members.now))) }
 {
     let mut relationships = Vec::new(alloc);
@@ -64,7 +65,7 @@ fn attributes_at(alloc: Global, at: &str, value: &Value) -> Result<List<Attribut
     ensures { Finds result (attributes_at at.now (view value.now)) }
 {
     let group = member_pointer(alloc, at, "attributes")?;
-    match fields_at(alloc, group.as_str(), 64, member(value, "attributes"))? {
+    match fields_at(alloc, group.as_str(), ATTRIBUTE_LIMIT, member(value, "attributes"))? {
         Some(members) => read_attributes(alloc, group.as_str(), members),
         None => Ok(List::from_vec(Vec::new(alloc))),
     }
@@ -78,11 +79,11 @@ fn relationships_at(
     at: &str,
     value: &Value,
 ) -> Result<List<Relationship>, SchemaEnd>
-    requires few { length kinds.now ≤ 64 }
+    requires few { length kinds.now ≤ KIND_LIMIT }
     ensures { Finds result (relationships_at kinds.now (map (λ a. a.name) attributes.now) at.now (view value.now)) }
 {
     let group = member_pointer(alloc, at, "relationships")?;
-    match fields_at(alloc, group.as_str(), 32, member(value, "relationships"))? {
+    match fields_at(alloc, group.as_str(), RELATIONSHIP_LIMIT, member(value, "relationships"))? {
         Some(members) => read_relationships(alloc, kinds, attributes, group.as_str(), members),
         None => Ok(List::from_vec(Vec::new(alloc))),
     }
@@ -90,7 +91,7 @@ fn relationships_at(
 
 /// One type: its name, itself as an object, `client-ids`, `attributes` and `relationships` are judged in this order.
 fn read_kind(alloc: Global, kinds: &[Text], text: &str, value: &Value) -> Result<Kind, SchemaEnd>
-    requires few { length kinds.now ≤ 64 }
+    requires few { length kinds.now ≤ KIND_LIMIT }
     ensures { Finds result (kind_from kinds.now (text.now, view value.now)) }
 {
     let at = member_pointer(alloc, "/types", text)?;
@@ -141,7 +142,7 @@ fn read_kinds(
     kinds: &[Text],
     types: &Map<String, Value>,
 ) -> Result<List<Kind>, SchemaEnd>
-    requires few { length kinds.now ≤ 64 }
+    requires few { length kinds.now ≤ KIND_LIMIT }
     ensures { Finds result (all_ok (map (kind_from kinds.now) (members_in types.now))) }
 {
     let mut read = Vec::new(alloc);
@@ -154,9 +155,9 @@ fn read_kinds(
     Ok(List::from_vec(read))
 }
 
-/// The types of a file, at most 64, whose names are those that relationships lead to.
+/// The types of a file, at most `KIND_LIMIT`, whose names are those that relationships lead to.
 fn read_named_kinds(alloc: Global, types: &Map<String, Value>) -> Result<List<Kind>, SchemaEnd>
-    requires few { length (members_in types.now) ≤ 64 }
+    requires few { length (members_in types.now) ≤ KIND_LIMIT }
     ensures { Finds result (all_ok (map (kind_from (map (λ t. t.0) (members_in types.now))) (members_in types.now))) }
 {
     let names = type_names(alloc, types)?;
@@ -173,7 +174,7 @@ fn read_types(alloc: Global, value: &Value) -> Result<List<Kind>, SchemaEnd>
     if is_empty(types) {
         return Err(fault(alloc, "/types", Why::Empty));
     }
-    if exceeds(types, 64) {
+    if exceeds(types, KIND_LIMIT) {
         return Err(fault(alloc, "/types", Why::Limit));
     }
     names_rise(member(value, "types"));
@@ -184,8 +185,8 @@ fn read_types(alloc: Global, value: &Value) -> Result<List<Kind>, SchemaEnd>
 /// The schema that a JSON value describes (of this project; names as in JSON:API 1.1, "Member Names" and "Fields").
 ///
 /// The value is walked in byte order of the names, type by type: a type's name, itself as an object, `client-ids`, its
-/// attributes and its relationships. The fault is the first one that the walk meets; it is never `Why::NoJson`. Limits: 1 to 64
-/// types, of each at most 64 attributes and 32 relationships.
+/// attributes and its relationships. The fault is the first one that the walk meets; it is never `Why::NoJson`. Limits: 1 to
+/// `KIND_LIMIT` types, of each at most `ATTRIBUTE_LIMIT` attributes and `RELATIONSHIP_LIMIT` relationships.
 pub fn read_schema(alloc: Global, value: &Value) -> Result<Schema, SchemaEnd>
     ensures { Finds result (schema_of (view value.now)) }
 {

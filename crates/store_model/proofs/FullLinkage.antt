@@ -26,8 +26,8 @@ use Rattle.store_model.specs.Pages.{first_item, place_cmp, place_cmp_total, plac
 use Rattle.store_model.specs.Included.{HasLink, IsReached, IsReachedFrom, included, has_key}
 use Rattle.serde_json.specs.Data.{Data, null}
 use Rattle.store_model.specs.Resource.{Fields, object_of, resource, collection_path, related_path}
-use Rattle.store_model.specs.Document.{resources, page_links, included_member, page_document, row_document, linked_document, related_document, relationship_name, target_document, document, linked_rows, primary_rows, included_rows}
-use Rattle.store_model.specs.Laws.{Pairwise, AreApart, IsBefore, HasOneCursor, HasLesserKey, IsChain, IsChained, IsFullyLinked, ShowsResources, ShowsRows, included_part}
+use Rattle.store_model.specs.Document.{meta_member, resources, page_links, included_member, page_document, row_document, linked_document, related_document, relationship_name, target_document, document, linked_rows, primary_rows, included_rows}
+use Rattle.store_model.specs.Laws.{Pairwise, AreApart, IsBefore, HasLesserKey, IsChain, IsChained, IsFullyLinked, ShowsResources, ShowsRows, included_part}
 use Rattle.store_model.proofs.Basics.{false_or_true, one_passes, in_left, in_right, in_append, in_map, from_map, all_in, in_all}
 use Rattle.store_model.proofs.Paging.{page_exact}
 use Rattle.store_model.proofs.Reaching.{included_exactly, itself}
@@ -89,9 +89,9 @@ module _ (schema : Schema) (w : World) (valid : IsValid schema w) where
   abbrev AreFine : List Row → Type 0
   AreFine rows = Pairwise (λ a b. a.key ≢ b.key) rows × ((row : Row) → IsIn rows row → row_at w row.key ≡ Some row)
 
-  page_fine : (query : Query) (rows : List Row) → HasOneCursor query.page → AreApart rows → ((row : Row) → IsIn rows row → row_at w row.key ≡ Some row) → AreFine ((page_of query.sort query.page rows).rows)
-  page_fine query rows one apart of_world =
-      let page = page_exact query.sort rows apart query.page one in (
+  page_fine : (query : Query) (rows : List Row) → AreApart rows → ((row : Row) → IsIn rows row → row_at w row.key ≡ Some row) → AreFine ((page_of query.sort query.page rows).rows)
+  page_fine query rows apart of_world =
+      let page = page_exact query.sort rows apart query.page in (
         pairwise_weaker (IsBefore query.sort) (λ a b. a.key ≢ b.key) ((page_of query.sort query.page rows).rows) (λ a b p q less e.
             before_differs query.sort a b less (one_row schema w valid a b (of_world a (page.asked a p).0) (of_world b (page.asked b q).0) e)) page.in_order,
         λ row among. of_world row (page.asked row among).0,
@@ -100,19 +100,19 @@ module _ (schema : Schema) (w : World) (valid : IsValid schema w) where
   rows_at_world : (keys : List Key) (row : Row) → IsIn (rows_at w keys) row → row_at w row.key ≡ Some row
   rows_at_world keys row among = ((rows_at_exactly schema w valid keys row).0 among).0
 
-  link_fine : (query : Query) (row : Row) (rel : ℕ) (link : Link) → HasOneCursor query.page → link_at row rel ≡ link → AreFine (linked_rows schema w query row rel link)
-  link_fine query row rel (One x) one is = (
+  link_fine : (query : Query) (row : Row) (rel : ℕ) (link : Link) → link_at row rel ≡ link → AreFine (linked_rows schema w query row rel link)
+  link_fine query row rel (One x) is = (
     pairwise_short (λ a b. a.key ≢ b.key) (rows_at w (linked schema row rel)) (one_row_at_most schema w row rel x is),
     rows_at_world (linked schema row rel),
   )
-  link_fine query row rel (Many xs) one is = page_fine query (rows_at w (linked schema row rel)) one (linked_apart schema w valid row rel) (rows_at_world (linked schema row rel))
+  link_fine query row rel (Many xs) is = page_fine query (rows_at w (linked schema row rel)) (linked_apart schema w valid row rel) (rows_at_world (linked schema row rel))
 
   none_fine : AreFine []
   none_fine = (tt, λ row among. elim among [ ])
 
-  primaries_fine : (query : Query) (t : Target) → HasOneCursor query.page → AreFine (primary_rows schema w query t)
-  primaries_fine query (target.Collection kind) one = page_fine query (rows_of w kind) one (rows_of_apart schema w valid kind) (λ row among. ((rows_of_exactly schema w valid kind row).0 among).0)
-  primaries_fine query (target.Resource key) one =
+  primaries_fine : (query : Query) (t : Target) → AreFine (primary_rows schema w query t)
+  primaries_fine query (target.Collection kind) = page_fine query (rows_of w kind) (rows_of_apart schema w valid kind) (λ row among. ((rows_of_exactly schema w valid kind row).0 among).0)
+  primaries_fine query (target.Resource key) =
       elim (row_at w key) as (λ o. row_at w key ≡ o → AreFine (option_map_or (λ row. row ∷ []) o [])) [
         | None ↦ λ e. none_fine
         | Some row ↦ λ e. (
@@ -123,13 +123,13 @@ module _ (schema : Schema) (w : World) (valid : IsValid schema w) where
           ],
         )
       ] refl
-  primaries_fine query (target.Related key rel) one =
+  primaries_fine query (target.Related key rel) =
       elim (row_at w key) as (λ o. AreFine (option_map_or (λ row. linked_rows schema w query row rel (link_at row rel)) o [])) [
         | None ↦ none_fine
-        | Some row ↦ link_fine query row rel (link_at row rel) one refl
+        | Some row ↦ link_fine query row rel (link_at row rel) refl
       ]
-  primaries_fine query (target.Linkage key rel) one = none_fine
-  primaries_fine query target.Operations one = none_fine
+  primaries_fine query (target.Linkage key rel) = none_fine
+  primaries_fine query target.Operations = none_fine
 
   -- ---- chains
 
@@ -218,12 +218,12 @@ module _ (schema : Schema) (w : World) (valid : IsValid schema w) where
       chained = λ row among. elim among [ ];
     }
 
-  pub fully_linked : (fetch : Fetch) → HasOneCursor fetch.query.page → IsFullyLinked schema w fetch.query.fields (primary_rows schema w fetch.query fetch.target) (included_rows schema w fetch)
-  fully_linked fetch one = by (fetch.query.include)
+  pub fully_linked : (fetch : Fetch) → IsFullyLinked schema w fetch.query.fields (primary_rows schema w fetch.query fetch.target) (included_rows schema w fetch)
+  fully_linked fetch = by (fetch.query.include)
     where
       by : (o : Option (List Path)) → IsFullyLinked schema w fetch.query.fields (primary_rows schema w fetch.query fetch.target) (option_map_or (included schema w (map (λ row. row.key) (primary_rows schema w fetch.query fetch.target))) o [])
-      by None = without_included fetch.query.fields (primary_rows schema w fetch.query fetch.target) (primaries_fine fetch.query fetch.target one)
-      by (Some paths) = with_included fetch.query.fields (primary_rows schema w fetch.query fetch.target) (primaries_fine fetch.query fetch.target one) paths
+      by None = without_included fetch.query.fields (primary_rows schema w fetch.query fetch.target) (primaries_fine fetch.query fetch.target)
+      by (Some paths) = with_included fetch.query.fields (primary_rows schema w fetch.query fetch.target) (primaries_fine fetch.query fetch.target) paths
 
 -- ---- what a document shows
 
@@ -248,15 +248,17 @@ module _ (schema : Schema) (w : World) (query : Query) where
       record {
         primary = resources schema query ((page_of query.sort query.page rows).rows);
         links = Some (page_links path query (page_of query.sort query.page rows));
-        is = ap (λ ms. object_of ((codes "data", resources schema query ((page_of query.sort query.page rows).rows)) ∷ ms)) (same_included schema w query page.rows query.include ((codes "links", page_links path query page) ∷ []));
+        truncated = (page_of query.sort query.page rows).truncated;
+        is = ap (λ ms. object_of ((codes "data", resources schema query ((page_of query.sort query.page rows).rows)) ∷ ms)) (same_included schema w query page.rows query.include ((codes "links", page_links path query page) ∷ meta_member page.truncated));
         shows = inl refl;
       }
 
   row_shows : (rows : List Row) → length rows ≤ 1 → ShowsRows schema query rows (beside rows) (row_document schema w query (first_item rows))
-  row_shows [] h = record { primary = null; links = None; is = ap (λ ms. object_of ((codes "data", null) ∷ ms)) (no_links schema w query [] query.include); shows = inr refl }
+  row_shows [] h = record { primary = null; links = None; truncated = false; is = ap (λ ms. object_of ((codes "data", null) ∷ ms)) (no_links schema w query [] query.include); shows = inr refl }
   row_shows (row ∷ []) h = record {
     primary = resource schema row query.fields;
     links = None;
+    truncated = false;
     is = ap (λ ms. object_of ((codes "data", resource schema row query.fields) ∷ ms)) (no_links schema w query (row ∷ []) query.include);
     shows = inr refl;
   }

@@ -20,7 +20,8 @@ use Rattle.error_objects.specs.declared.refusals.Refusal.{Refusal}
 use Rattle.task_forms.specs.declared.operations.Operation.TheVariants.{Create, Update}
 use Rattle.ident_rules.specs.Key.{key_cmp_total, same_key, key_is}
 use Rattle.world_cells.specs.World.{World, row_at, has_row, next_id, ids_of, no_link, link_at}
-use Rattle.store_model.specs.Valid.{last_next, IsLinkOf, IsValidRow, IsValid}
+use Rattle.world_cells.specs.declared.cells.TheConstants.{LAST_NEXT_ID}
+use Rattle.store_model.specs.Valid.{IsLinkOf, IsValidRow, IsValid}
 use Rattle.resource_schema.specs.Forms.{HasForm}
 use Rattle.resource_schema.specs.Kinds.{attributes_of, relationships_of}
 use Rattle.error_objects.specs.Refusals.{at_pointer}
@@ -167,10 +168,10 @@ module _ (schema : Schema) (w : World) (lids : Lids) (kind : ℕ) (lid : Option 
   create_keeps None valid fits none =
       let n = next_id w kind in
       let key = created_key w kind None in
-      let parts = four_none (when (is_bound lids kind lid) (at_pointer code.LidBound (codes "/data/lid"))) None (when (n == last_next) (refusal code.IdsEnded))
+      let parts = four_none (when (is_bound lids kind lid) (at_pointer code.LidBound (codes "/data/lid"))) None (when (n == LAST_NEXT_ID) (refusal code.IdsEnded))
       (refuse_links (λ k. same_key key k || has_row w k) (bind lids kind lid key.id) (relationships_of schema kind) links) none in
       let range = next_in_range schema w kind valid in
-      let high : n + 1 ≤ last_next = not_last n last_next range.1 (when_none (n == last_next) (refusal code.IdsEnded) parts.2) in
+      let high : n + 1 ≤ LAST_NEXT_ID = not_last n LAST_NEXT_ID range.1 (when_none (n == LAST_NEXT_ID) (refusal code.IdsEnded) parts.2) in
       let later = valid_with_next schema w kind (n + 1) valid fits.known (up n) (above n range.0) high in
       added schema (with_next w kind (n + 1)) (made key) later fits.known fits.all_values (made_links key fits.linkages.each parts.3)
       (λ digits. (n, refl, range.0, subst (λ i. n < i) (sym (next_after w kind (n + 1))) (less n)))

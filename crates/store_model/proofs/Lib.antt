@@ -17,6 +17,8 @@ mod Rows
 mod Runs
 mod ShownLinks
 mod Sources
+mod Strict
+mod Uniqueness
 mod Valid
 mod ValidExamples
 mod WorldRows

@@ -18,7 +18,8 @@ use Rattle.form_urlencoded.proofs.OnLiterals.{form_urlencoded_on_literals}
 use Rattle.base64.proofs.OnLiterals.{base64_on_literals}
 use Rattle.store_model.specs.Answer.{answer, effect}
 use Rattle.store_model.specs.Included.{included}
-use Rattle.store_model.specs.Pages.{Selected, value_cmp, place_cmp, place_of, page_of, rows_of, rows_at}
+use Rattle.store_model.specs.declared.pages.Selected.{Selected}
+use Rattle.store_model.specs.Pages.{value_cmp, place_cmp, place_of, page_of, rows_of, rows_at}
 use Rattle.store_model.proofs.Examples.{blog, no_cursors}
 use Rattle.store_model.proofs.Rows.{key_at, one_member_of, member_of, path_of, blog_with_people, titled, by_attribute, ids_of_rows, list_of, after_id, nodes}
 

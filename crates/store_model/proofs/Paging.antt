@@ -1,23 +1,30 @@
 -- A computed page is one page of its rows, and rows of a type and rows at keys are those of the world.
 use Rattle.std.proofs.Common.{◌≡◌, ℕ, ◌-◌, ◌≤◌, List, [], ◌∷◌, true, false, length, take, drop, refl, sym, ap, subst, ◌∙◌, Some, None, Option, inl, inr, zero, suc, arith}
-use Rattle.std.specs.Prelude.{T, ◌⊎◌, ◌↔◌, IsTrue, MatchOption, is_some, map, option_map}
+use Rattle.std.specs.Prelude.{T, ◌⊎◌, ◌↔◌, ◌<◌, ◌&&◌, nat_lt, Bool, IsTrue, IfSome, is_some, is_none, map, option_map}
 use Rattle.std.specs.Option.{option_map_or}
 use Rattle.std.specs.declared.cmp.Ordering.{Ordering}
 use Rattle.std.specs.declared.cmp.Ordering.TheVariants.{Less, Equal, Greater}
 use Rattle.std.specs.Ordering.{is_lt}
 use Rattle.std.specs.List.{AllByRecursion, list_any, last_or}
 use Rattle.std.specs.FinMap.Entries.{by_order, put, is_sorted, is_sorted-put, is_sorted-where_key}
-use Rattle.std.proofs.lemmas.List.{take-append-drop, length-take-le, length-drop, length-map}
+use Rattle.std.proofs.lemmas.List.{take_all, take-append-drop, length-take-le, length-drop, length-map}
+use Rattle.std.proofs.lemmas.Bool.{and_parts, and_from, cases_lt}
+use Rattle.std.proofs.lemmas.Bool.Decides.{nat_tests}
+use borrow.Author.Tests.{ltb-true}
+use Rattle.store_model.proofs.Strict.{never_itself}
 use Rattle.ident_rules.specs.IdOrder.{id_cmp-IsAntisymmetric, second_equal}
 use Rattle.resource_schema.specs.declared.values.Place.{Place}
 use Rattle.world_cells.specs.declared.rows.Row.{Row}
 use Rattle.world_cells.specs.Lists.{IsIn}
 use Rattle.task_forms.specs.declared.queries.Page.{Page}
 use Rattle.task_forms.specs.declared.queries.SortKey.{SortKey}
-use Rattle.store_model.specs.Pages.{values_cmp, place_cmp, place_cmp_total, place_of, by_place, last_items, first_item, last_item, behind, before, slice_between, slice_of, any_before, any_after, page_of, sorted}
-use Rattle.store_model.specs.Laws.{AreApart, IsBefore, IsBetween, HasNoRoom, HasEarlier, HasLater, HasOneCursor, IsPage, AreSorted}
+use Rattle.store_model.specs.Pages.{values_cmp, place_cmp, place_cmp_total, place_of, by_place, last_items, first_item, last_item, is_behind, is_ahead, asked_for, ends_at_cursor, is_range, cut_to, slice_of, any_before, any_after, is_truncated, page_of, sorted}
+use Rattle.store_model.specs.Laws.{AreApart, IsBefore, IsBetween, StandsOutside, HasNoRoom, IsCutShort, HasEarlier, HasLater, IsPage, AreSorted}
 use Rattle.store_model.proofs.Basics.{same_Some, one_passes, in_left, in_right, in_append, in_map, from_map, in_filter, from_filter, all_in, in_all, pairwise_values, sorted_split}
 use Rattle.store_model.specs.LinkLaws.{passes}
+
+is_less : (m n : ℕ) → m < n → nat_lt m n ≡ true
+is_less m n h = grind (arith, nat_tests, h)
 
 -- ---- one entry more
 
@@ -119,16 +126,30 @@ module _ (sort : List SortKey) where
 
   -- ---- one slice
 
+  -- an entry stands before all of these, or behind them all
+  abbrev IsOutside : Bool → Place → List (Place × Row) → Type 0
+  IsOutside true p items = AllByRecursion (λ (d : Place × Row). is_lt (place_cmp sort p d.0) ≡ true) items
+  IsOutside false p items = AllByRecursion (λ (d : Place × Row). is_lt (place_cmp sort d.0 p) ≡ true) items
+
   -- a slice of all entries, in the words of the law
-  record IsSlice (size : ℕ) (low high : Option Place) (all items : List (Place × Row)) : Type 0 where
+  record IsSlice (page : Page) (all items : List (Place × Row)) : Type 0 where
     in_order : T (is_sorted (place_cmp sort) items)
-    short : length items ≤ size
-    asked : (e : Place × Row) → IsIn items e → IsIn all e × IsBetween sort low high e.0
-    whole : (e : Place × Row) → IsIn all e → IsBetween sort low high e.0 → IsIn items e ⊎ ((length items ≡ size) × MatchOption high (AllByRecursion (λ (d : Place × Row). is_lt (place_cmp sort d.0 e.0) ≡ true) items) (λ cursor. AllByRecursion (λ (d : Place × Row). is_lt (place_cmp sort e.0 d.0) ≡ true) items))
+    short : length items ≤ page.size
+    asked : (e : Place × Row) → IsIn items e → IsIn all e × IsBetween sort page.after page.before e.0
+    whole : (e : Place × Row) → IsIn all e → IsBetween sort page.after page.before e.0 → IsIn items e ⊎ ((length items ≡ page.size) × IsOutside (ends_at_cursor page) e.0 items)
 
   some_there : {A : Type 0} (xs : List A) (x : A) → IsIn xs x → 1 ≤ length xs
   some_there [] x among = elim among [ ]
   some_there (y ∷ xs) x among = omega arith
+
+  -- what stands behind the first n stands behind each of them, and they are n
+  behind_first : (n : ℕ) (all : List (Place × Row)) (e : Place × Row) → T (is_sorted (place_cmp sort) all) → IsIn (drop n all) e
+      → (length (take n all) ≡ n) × AllByRecursion (λ (d : Place × Row). is_lt (place_cmp sort d.0 e.0) ≡ true) (take n all)
+  behind_first n all e h later =
+      let split = sorted_split (place_cmp sort) (take n all) (drop n all) (subst (λ (es : List (Place × Row)). T (is_sorted (place_cmp sort) es)) (sym (take-append-drop n all)) h) in
+      let some : 1 ≤ length all - n = subst (λ i. 1 ≤ i) (length-drop n all) (some_there (drop n all) e later) in
+      let fits : n ≤ length all = omega arith in
+      (length-take-le n all fits, all_in (λ (d : Place × Row). is_lt (place_cmp sort d.0 e.0) ≡ true) (take n all) (λ d p. split.2 d e p later))
 
   -- what does not stand in the first n stands behind each of them, and they are n
   first_of_all : (n : ℕ) (all : List (Place × Row)) (e : Place × Row) → T (is_sorted (place_cmp sort) all) → IsIn all e
@@ -137,11 +158,7 @@ module _ (sort : List SortKey) where
       let cut = take-append-drop n all in
       elim (in_append (take n all) (drop n all) e (subst (λ (es : List (Place × Row)). IsIn es e) (sym cut) among)) [
         | inl here ↦ inl here
-        | inr later ↦
-            let split = sorted_split (place_cmp sort) (take n all) (drop n all) (subst (λ (es : List (Place × Row)). T (is_sorted (place_cmp sort) es)) (sym cut) h) in
-            let some : 1 ≤ length all - n = subst (λ i. 1 ≤ i) (length-drop n all) (some_there (drop n all) e later) in
-            let fits : n ≤ length all = omega arith in
-            inr (length-take-le n all fits, all_in (λ (d : Place × Row). is_lt (place_cmp sort d.0 e.0) ≡ true) (take n all) (λ d p. split.2 d e p later))
+        | inr later ↦ inr (behind_first n all e h later)
       ]
 
   -- what does not stand in the last n stands before each of them, and they are n
@@ -180,31 +197,84 @@ module _ (sort : List SortKey) where
   last_short : {A : Type 0} (n : ℕ) (xs : List A) → length (last_items n xs) ≤ n
   last_short n xs = let left : length xs - (length xs - n) ≤ n = omega arith in subst (λ i. i ≤ n) (sym (length-drop (length xs - n) xs)) left
 
-  slice_is : (size : ℕ) (low high : Option Place) (all : List (Place × Row)) → (IsTrue (is_some low) → high ≡ None) → T (is_sorted (place_cmp sort) all) → IsSlice size low high all (slice_between sort size low high all)
-  slice_is size (Some cursor) (Some other) all one h = cc (one refl)
-  slice_is size (Some cursor) None all one h =
-      let passing = behind sort cursor all in
-      let sorted = is_sorted-where_key (place_cmp sort) (λ p. is_lt (place_cmp sort cursor p)) all h in
-      record {
-        in_order = take_sorted size passing sorted;
-        short = take_short size passing;
-        asked = λ e among. let found = from_filter (λ (e : Place × Row). is_lt (place_cmp sort cursor e.0)) all e (from_take size (behind sort cursor all) e among) in (found.0, (found.1, tt));
-        whole = λ e among asked. first_of_all size (behind sort cursor all) e sorted (in_filter (λ (e : Place × Row). is_lt (place_cmp sort cursor e.0)) all e among asked.0);
-      }
-  slice_is size None (Some cursor) all one h =
-      let passing = before sort cursor all in
-      let sorted = is_sorted-where_key (place_cmp sort) (λ p. is_lt (place_cmp sort p cursor)) all h in
-      record {
-        in_order = drop_sorted (length passing - size) passing sorted;
-        short = last_short size passing;
-        asked = λ e among. let found = from_filter (λ (e : Place × Row). is_lt (place_cmp sort e.0 cursor)) all e (from_drop (length (before sort cursor all) - size) (before sort cursor all) e among) in (found.0, (tt, found.1));
-        whole = λ e among asked. last_of_all size (before sort cursor all) e sorted (in_filter (λ (e : Place × Row). is_lt (place_cmp sort e.0 cursor)) all e among asked.1);
-      }
-  slice_is size None None all one h = record {
-    in_order = take_sorted size all h;
-    short = take_short size all;
-    asked = λ e among. (from_take size all e among, (tt, tt));
-    whole = λ e among asked. first_of_all size all e h among;
+  -- ---- the items that are asked for
+
+  behind_if : (o : Option Place) (p : Place) → is_behind sort o p ≡ true → IfSome o (λ cursor. IsTrue (is_lt (place_cmp sort cursor p)))
+  behind_if None p e = tt
+  behind_if (Some cursor) p e = e
+
+  behind_from : (o : Option Place) (p : Place) → IfSome o (λ cursor. IsTrue (is_lt (place_cmp sort cursor p))) → is_behind sort o p ≡ true
+  behind_from None p e = refl
+  behind_from (Some cursor) p e = e
+
+  ahead_if : (o : Option Place) (p : Place) → is_ahead sort o p ≡ true → IfSome o (λ cursor. IsTrue (is_lt (place_cmp sort p cursor)))
+  ahead_if None p e = tt
+  ahead_if (Some cursor) p e = e
+
+  ahead_from : (o : Option Place) (p : Place) → IfSome o (λ cursor. IsTrue (is_lt (place_cmp sort p cursor))) → is_ahead sort o p ≡ true
+  ahead_from None p e = refl
+  ahead_from (Some cursor) p e = e
+
+  module _ (page : Page) (all : List (Place × Row)) where
+    abbrev asked : List (Place × Row)
+    asked = asked_for sort page all
+
+    asked_is : (e : Place × Row) → IsIn asked e → IsIn all e × IsBetween sort page.after page.before e.0
+    asked_is e among =
+        let found = from_filter (λ (e : Place × Row). is_behind sort page.after e.0 && is_ahead sort page.before e.0) all e among in
+        let parts = and_parts (is_behind sort page.after e.0) (is_ahead sort page.before e.0) found.1 in
+        (found.0, (behind_if page.after e.0 parts.0, ahead_if page.before e.0 parts.1))
+
+    is_asked : (e : Place × Row) → IsIn all e → IsBetween sort page.after page.before e.0 → IsIn asked e
+    is_asked e among between =
+        in_filter (λ (e : Place × Row). is_behind sort page.after e.0 && is_ahead sort page.before e.0) all e among
+        (and_from (is_behind sort page.after e.0) (is_ahead sort page.before e.0) (behind_from page.after e.0 between.0) (ahead_from page.before e.0 between.1))
+
+    asked_sorted : T (is_sorted (place_cmp sort) all) → T (is_sorted (place_cmp sort) asked)
+    asked_sorted h = is_sorted-where_key (place_cmp sort) (λ p. is_behind sort page.after p && is_ahead sort page.before p) all h
+
+  -- ---- cutting them
+
+  cut_sorted : (b : Bool) (n : ℕ) (all : List (Place × Row)) → T (is_sorted (place_cmp sort) all) → T (is_sorted (place_cmp sort) (cut_to b n all))
+  cut_sorted true n all h = drop_sorted (length all - n) all h
+  cut_sorted false n all h = take_sorted n all h
+
+  cut_short : (b : Bool) (n : ℕ) (all : List (Place × Row)) → length (cut_to b n all) ≤ n
+  cut_short true n all = last_short n all
+  cut_short false n all = take_short n all
+
+  from_cut : (b : Bool) (n : ℕ) (all : List (Place × Row)) (e : Place × Row) → IsIn (cut_to b n all) e → IsIn all e
+  from_cut true n all e among = from_drop (length all - n) all e among
+  from_cut false n all e among = from_take n all e among
+
+  cut_whole : (b : Bool) (n : ℕ) (all : List (Place × Row)) (e : Place × Row) → T (is_sorted (place_cmp sort) all) → IsIn all e
+      → IsIn (cut_to b n all) e ⊎ ((length (cut_to b n all) ≡ n) × IsOutside b e.0 (cut_to b n all))
+  cut_whole true n all e h among = last_of_all n all e h among
+  cut_whole false n all e h among = first_of_all n all e h among
+
+  -- a longer list has an item for which the first ones leave no room
+  cut_rest : (b : Bool) (n : ℕ) (all : List (Place × Row)) → b ≡ false → T (is_sorted (place_cmp sort) all) → n < length all
+      → (e : Place × Row) × IsIn all e × (length (cut_to b n all) ≡ n) × IsOutside b e.0 (cut_to b n all)
+  cut_rest true n all is h more = cc is
+  cut_rest false n all is h more = by (drop n all) refl
+    where
+      by : (rest : List (Place × Row)) → drop n all ≡ rest → (e : Place × Row) × IsIn all e × (length (take n all) ≡ n) × IsOutside false e.0 (take n all)
+      by [] none = let no : length all - n ≡ 0 = sym (length-drop n all) ∙ ap length none in absurd (omega (arith, no, more))
+      by (e ∷ rest) some =
+          let later : IsIn (drop n all) e = subst (λ (es : List (Place × Row)). IsIn es e) (sym some) (inl refl) in
+          let out = behind_first n all e h later in
+          (e, from_drop n all e later, out.0, out.1)
+
+  cut_all : (b : Bool) (n : ℕ) (all : List (Place × Row)) → b ≡ false → length all ≤ n → cut_to b n all ≡ all
+  cut_all true n all is few = cc is
+  cut_all false n all is few = take_all n all few
+
+  slice_is : (page : Page) (all : List (Place × Row)) → T (is_sorted (place_cmp sort) all) → IsSlice page all (slice_of sort page all)
+  slice_is page all h = record {
+    in_order = cut_sorted (ends_at_cursor page) page.size (asked page all) (asked_sorted page all h);
+    short = cut_short (ends_at_cursor page) page.size (asked page all);
+    asked = λ e among. asked_is page all e (from_cut (ends_at_cursor page) page.size (asked page all) e among);
+    whole = λ e among between. cut_whole (ends_at_cursor page) page.size (asked page all) e (asked_sorted page all h) (is_asked page all e among between);
   }
 
   -- ---- what stands before and behind
@@ -286,17 +356,62 @@ module _ (sort : List SortKey) where
         let less = in_all (λ (d : Place × Row). is_lt (place_cmp sort (place_of sort row) d.0) ≡ true) items one.0 all one.1 in
         subst (λ (r : Row). IsBefore sort row r) one.2 (subst (λ (p : Place). is_lt (place_cmp sort (place_of sort row) p) ≡ true) (placed one.0 (within one.0 one.1)) less))
 
-    no_room : (page : Page) (items : List (Place × Row)) (row : Row) → ((e : Place × Row) → IsIn items e → IsIn everyone e) → length items ≡ page.size
-        → (high : Option Place) → page.before ≡ high → MatchOption high (AllByRecursion (λ (d : Place × Row). is_lt (place_cmp sort d.0 (place_of sort row)) ≡ true) items) (λ cursor. AllByRecursion (λ (d : Place × Row). is_lt (place_cmp sort (place_of sort row) d.0) ≡ true) items)
-        → HasNoRoom sort page (map (λ (e : Place × Row). e.1) items) row
-    no_room page items row within full None is all =
-        (length-map items (λ (e : Place × Row). e.1) ∙ full, subst (λ (o : Option Place). MatchOption o (AllByRecursion (λ other. IsBefore sort other row) (map (λ (e : Place × Row). e.1) items)) (λ cursor. AllByRecursion (IsBefore sort row) (map (λ (e : Place × Row). e.1) items))) (sym is) (rows_before items row within all))
-    no_room page items row within full (Some cursor) is all =
-        (length-map items (λ (e : Place × Row). e.1) ∙ full, subst (λ (o : Option Place). MatchOption o (AllByRecursion (λ other. IsBefore sort other row) (map (λ (e : Place × Row). e.1) items)) (λ cursor. AllByRecursion (IsBefore sort row) (map (λ (e : Place × Row). e.1) items))) (sym is) (rows_behind items row within all))
+    outside : (b : Bool) (items : List (Place × Row)) (row : Row) → ((e : Place × Row) → IsIn items e → IsIn everyone e) → IsOutside b (place_of sort row) items
+        → StandsOutside sort b (map (λ (e : Place × Row). e.1) items) row
+    outside true items row within all = rows_behind items row within all
+    outside false items row within all = rows_before items row within all
 
-    page_is : (page : Page) (items : List (Place × Row)) → IsSlice page.size page.after page.before everyone items
-        → IsPage sort page rows (record { rows = map (λ (e : Place × Row). e.1) items; before = any_before sort items everyone; after = any_after sort items everyone })
-    page_is page items slice =
+    no_room : (page : Page) (items : List (Place × Row)) (row : Row) → ((e : Place × Row) → IsIn items e → IsIn everyone e) → length items ≡ page.size → IsOutside (ends_at_cursor page) (place_of sort row) items
+        → HasNoRoom sort page (map (λ (e : Place × Row). e.1) items) row
+    no_room page items row within full all = (length-map items (λ (e : Place × Row). e.1) ∙ full, outside (ends_at_cursor page) items row within all)
+
+    -- a range starts at its first cursor
+    range_starts : (after before : Option Place) → (is_some after && is_some before) ≡ true → (is_none after && is_some before) ≡ false
+    range_starts None before e = cc e
+    range_starts (Some cursor) before e = refl
+
+    abbrev shown : Page → List Row
+    shown page = map (λ (e : Place × Row). e.1) (slice_of sort page everyone)
+
+    cut_short_is : (page : Page) → IsTrue (is_truncated sort page everyone) ↔ IsCutShort sort page rows (shown page)
+    cut_short_is page = (forth, back)
+      where
+        items_in : (e : Place × Row) → IsIn (slice_of sort page everyone) e → IsIn everyone e
+        items_in e among = (asked_is page everyone e (from_cut (ends_at_cursor page) page.size (asked_for sort page everyone) e among)).0
+
+        forth : IsTrue (is_truncated sort page everyone) → IsCutShort sort page rows (shown page)
+        forth e =
+            let parts = and_parts (is_range page) (nat_lt page.size (length (asked_for sort page everyone))) e in
+            let starts : ends_at_cursor page ≡ false = range_starts page.after page.before parts.0 in
+            let rest = cut_rest (ends_at_cursor page) page.size (asked_for sort page everyone) starts (asked_sorted page everyone (by_place_sorted rows)) (ltb-true page.size (length (asked_for sort page everyone)) parts.1) in
+            let is = asked_is page everyone rest.0 rest.1 in
+            let at = from_place rows rest.0 apart is.0 in
+            record {
+              range = parts.0;
+              row = rest.0.1;
+              among = at.1;
+              between = subst (λ (p : Place). IsBetween sort page.after page.before p) at.0 is.1;
+              no_room = no_room page (slice_of sort page everyone) rest.0.1 items_in rest.2 (subst (λ (p : Place). IsOutside (ends_at_cursor page) p (slice_of sort page everyone)) at.0 rest.3);
+            }
+
+        back : IsCutShort sort page rows (shown page) → IsTrue (is_truncated sort page everyone)
+        back cut = and_from (is_range page) (nat_lt page.size (length (asked_for sort page everyone))) cut.range (by (cases_lt page.size (length (asked_for sort page everyone))))
+          where
+            starts : ends_at_cursor page ≡ false
+            starts = range_starts page.after page.before cut.range
+
+            by : (page.size < length (asked_for sort page everyone)) ⊎ (length (asked_for sort page everyone) ≤ page.size) → nat_lt page.size (length (asked_for sort page everyone)) ≡ true
+            by (inl more) = is_less page.size (length (asked_for sort page everyone)) more
+            by (inr few) =
+                let among = is_asked page everyone (place_of sort cut.row, cut.row) (in_place rows cut.row apart cut.among) cut.between in
+                let here : IsIn (slice_of sort page everyone) (place_of sort cut.row, cut.row) = subst (λ (es : List (Place × Row)). IsIn es (place_of sort cut.row, cut.row)) (sym (cut_all (ends_at_cursor page) page.size (asked_for sort page everyone) starts few)) among in
+                let behind : AllByRecursion (λ other. IsBefore sort other cut.row) (shown page) = subst (λ (b : Bool). StandsOutside sort b (shown page) cut.row) starts cut.no_room.1 in
+                absurd (never_itself (place_cmp sort) (place_cmp_total sort) (place_of sort cut.row)
+                (in_all (λ other. IsBefore sort other cut.row) (shown page) cut.row behind (in_map (λ (e : Place × Row). e.1) (slice_of sort page everyone) (place_of sort cut.row, cut.row) here)))
+
+    page_is : (page : Page) (items : List (Place × Row)) (truncated : Bool) → IsSlice page everyone items → IsTrue truncated ↔ IsCutShort sort page rows (map (λ (e : Place × Row). e.1) items)
+        → IsPage sort page rows (record { rows = map (λ (e : Place × Row). e.1) items; before = any_before sort items everyone; after = any_after sort items everyone; truncated = truncated })
+    page_is page items truncated slice cut =
         let within : (e : Place × Row) → IsIn items e → IsIn everyone e = λ e among. (slice.asked e among).0 in
         record {
           in_order = pairwise_values (place_cmp sort) (IsBefore sort) items (λ d e p q less.
@@ -310,14 +425,15 @@ module _ (sort : List SortKey) where
           whole = λ row among asked.
               elim (slice.whole (place_of sort row, row) (in_place rows row apart among) asked) [
                 | inl here ↦ inl (in_map (λ (e : Place × Row). e.1) items (place_of sort row, row) here)
-                | inr out ↦ inr (no_room page items row within out.0 page.before refl out.1)
+                | inr out ↦ inr (no_room page items row within out.0 out.1)
               ];
           has_earlier = earlier_is items within;
           has_later = later_is items within;
+          is_cut_short = cut;
         }
 
-    pub page_exact : (page : Page) → HasOneCursor page → IsPage sort page rows (page_of sort page rows)
-    page_exact page one = page_is page (slice_of sort page (by_place sort rows)) (slice_is page.size page.after page.before (by_place sort rows) one (by_place_sorted rows))
+    pub page_exact : (page : Page) → IsPage sort page rows (page_of sort page rows)
+    page_exact page = page_is page (slice_of sort page everyone) (is_truncated sort page everyone) (slice_is page everyone (by_place_sorted rows)) (cut_short_is page)
 
     pub sorted_exact : AreSorted sort rows (sorted sort rows)
     sorted_exact = record {

@@ -3,7 +3,7 @@ use Rattle.std.proofs.Common.{◌≡◌, ℕ, ◌+◌, List, [], ◌∷◌, ◌+
 use Rattle.std.specs.Prelude.{◌⊎◌, ⊤, IsTrue, IfSome, MatchOption, map, option_map, slice_get, codes, Result, Ok, Err}
 use Rattle.std.specs.Option.{option_and_then}
 use Rattle.std.specs.List.{AllByRecursion, list_any, zip}
-use Rattle.serde_json.specs.Data.{Data, null, string, array, item, no_items}
+use Rattle.serde_json.specs.Data.{Data, null, boolean, string, array, item, no_items}
 use Rattle.serde_json.specs.View.{items_of}
 use Rattle.serde_json.specs.Written.{compact_text}
 use Rattle.json_forms.specs.Plain.{IsPlain}
@@ -42,9 +42,9 @@ use Rattle.store_model.specs.Run.{Ran, run, run_from, and_then, after_one, opera
 use Rattle.store_model.specs.Pages.{page_of, rows_of, rows_at, first_item, last_item}
 use Rattle.store_model.specs.Included.{included}
 use Rattle.store_model.specs.Resource.{object_of, resource, collection_path, related_path}
-use Rattle.store_model.specs.Document.{resources, page_link, page_links, included_member, page_document, row_document, linked_document, related_document, relationship_name, linkage_document, target_document, document}
+use Rattle.store_model.specs.Document.{resources, truncated_data, meta_member, page_link, page_links, included_member, page_document, row_document, linked_document, related_document, relationship_name, linkage_document, target_document, document}
 use Rattle.store_model.specs.Answer.{target_content, document_reply, row_data, row_body, first_of_rows, is_create, result_data, results_data, results_reply, done_reply, run_reply, answer}
-use Rattle.store_model.specs.Laws.{HasOneCursor, HasPlainBody}
+use Rattle.store_model.specs.Laws.{HasPlainBody}
 use Rattle.store_model.proofs.Basics.{all_in}
 use Rattle.store_model.proofs.Lawful.{operation_keeps}
 use Rattle.store_model.proofs.Paging.{page_exact}
@@ -91,10 +91,17 @@ module _ (schema : Schema) (rules : IsTrue (is_schema schema)) where
     link_plain path name (Some row) true = tt
     link_plain path name (Some row) false = tt
 
-    -- data, included where it was asked for, and links
-    with_links : (primary links : Data) (primaries : List Row) (o : Option (List Path)) → IsPlain primary → IsPlain links → IsPlain (object_of ((codes "data", primary) ∷ (included_member schema w query primaries o ++ (codes "links", links) ∷ [])))
-    with_links primary links primaries None p q = (((refl, tt), (tt, tt)), (p, (q, tt)))
-    with_links primary links primaries (Some paths) p q = (((refl, (refl, tt)), ((refl, tt), (tt, tt))), (p, (included_plain (map (λ row. row.key) primaries) paths, (q, tt))))
+    truncated_plain : IsPlain truncated_data
+    truncated_plain = only_plain (codes "page") (only (codes "rangeTruncated") (boolean true)) (only_plain (codes "rangeTruncated") (boolean true) tt)
+
+    -- data, included where it was asked for, links, and meta where a range is cut short
+    with_links : (primary links : Data) (primaries : List Row) (o : Option (List Path)) (truncated : Bool) → IsPlain primary → IsPlain links
+        → IsPlain (object_of ((codes "data", primary) ∷ (included_member schema w query primaries o ++ (codes "links", links) ∷ meta_member truncated)))
+    with_links primary links primaries None false p q = (((refl, tt), (tt, tt)), (p, (q, tt)))
+    with_links primary links primaries None true p q = (((refl, (refl, tt)), ((refl, tt), (tt, tt))), (p, (q, (truncated_plain, tt))))
+    with_links primary links primaries (Some paths) false p q = (((refl, (refl, tt)), ((refl, tt), (tt, tt))), (p, (included_plain (map (λ row. row.key) primaries) paths, (q, tt))))
+    with_links primary links primaries (Some paths) true p q =
+        (((refl, (refl, (refl, tt))), ((refl, (refl, tt)), ((refl, tt), (tt, tt)))), (p, (included_plain (map (λ row. row.key) primaries) paths, (q, (truncated_plain, tt)))))
 
     without_links : (primary : Data) (primaries : List Row) (o : Option (List Path)) → IsPlain primary → IsPlain (object_of ((codes "data", primary) ∷ included_member schema w query primaries o))
     without_links primary primaries None p = ((tt, tt), (p, tt))
@@ -103,53 +110,40 @@ module _ (schema : Schema) (rules : IsTrue (is_schema schema)) where
     page_plain : (path : List ℕ) (rows : List Row) → OfWorld ((page_of query.sort query.page rows).rows) → IsPlain (page_document schema w query path rows)
     page_plain path rows of_world =
         let page = page_of query.sort query.page rows in
-        with_links (resources schema query ((page_of query.sort query.page rows).rows)) (page_links path query (page_of query.sort query.page rows)) ((page_of query.sort query.page rows).rows) query.include (resources_plain ((page_of query.sort query.page rows).rows) of_world)
+        with_links (resources schema query ((page_of query.sort query.page rows).rows)) (page_links path query (page_of query.sort query.page rows)) ((page_of query.sort query.page rows).rows) query.include page.truncated (resources_plain ((page_of query.sort query.page rows).rows) of_world)
         (((refl, tt), (tt, tt)), (link_plain path (codes "page[after]") (last_item page.rows) page.after, (link_plain path (codes "page[before]") (first_item page.rows) page.before, tt)))
 
     first_plain : (rows : List Row) → OfWorld rows → IsPlain (row_document schema w query (first_item rows))
     first_plain [] of_world = without_links null [] query.include tt
     first_plain (row ∷ rows) of_world = without_links (resource schema row query.fields) (row ∷ []) query.include (row_plain row (of_world row (inl refl)))
 
-    module _ (one : HasOneCursor query.page) where
-      collection_world : (kind : ℕ) → OfWorld ((page_of query.sort query.page (rows_of w kind)).rows)
-      collection_world kind row among =
-          let page = page_exact query.sort (rows_of w kind) (rows_of_apart schema w valid kind) query.page one in
-          ((rows_of_exactly schema w valid kind row).0 (page.asked row among).0).0
+    collection_world : (kind : ℕ) → OfWorld ((page_of query.sort query.page (rows_of w kind)).rows)
+    collection_world kind row among =
+        let page = page_exact query.sort (rows_of w kind) (rows_of_apart schema w valid kind) query.page in
+        ((rows_of_exactly schema w valid kind row).0 (page.asked row among).0).0
 
-      related_world : (from : Row) (rel : ℕ) → OfWorld ((page_of query.sort query.page (rows_at w (linked schema from rel))).rows)
-      related_world from rel row among =
-          let page = page_exact query.sort (rows_at w (linked schema from rel)) (linked_apart schema w valid from rel) query.page one in
-          ((rows_at_exactly schema w valid (linked schema from rel) row).0 (page.asked row among).0).0
+    related_world : (from : Row) (rel : ℕ) → OfWorld ((page_of query.sort query.page (rows_at w (linked schema from rel))).rows)
+    related_world from rel row among =
+        let page = page_exact query.sort (rows_at w (linked schema from rel)) (linked_apart schema w valid from rel) query.page in
+        ((rows_at_exactly schema w valid (linked schema from rel) row).0 (page.asked row among).0).0
 
-      linked_plain : (row : Row) (rel : ℕ) (link : Link) → IsPlain (linked_document schema w query row rel link)
-      linked_plain row rel (One x) = first_plain (rows_at w (linked schema row rel)) (λ r among. ((rows_at_exactly schema w valid (linked schema row rel) r).0 among).0)
-      linked_plain row rel (Many xs) = page_plain (related_path schema row.key (relationship_name schema row.key.kind rel)) (rows_at w (linked schema row rel)) (related_world row rel)
+    linked_plain : (row : Row) (rel : ℕ) (link : Link) → IsPlain (linked_document schema w query row rel link)
+    linked_plain row rel (One x) = first_plain (rows_at w (linked schema row rel)) (λ r among. ((rows_at_exactly schema w valid (linked schema row rel) r).0 among).0)
+    linked_plain row rel (Many xs) = page_plain (related_path schema row.key (relationship_name schema row.key.kind rel)) (rows_at w (linked schema row rel)) (related_world row rel)
 
-      target_plain : (t : Target) → IfSome (target_document schema w query t) IsPlain
-      target_plain (target.Collection kind) = page_plain (collection_path schema kind) (rows_of w kind) (collection_world kind)
-      target_plain (target.Resource key) =
-          elim (row_at w key) as (λ o. row_at w key ≡ o → IfSome (option_map (λ row. row_document schema w query (Some row)) o) IsPlain) [
-            | None ↦ λ e. tt
-            | Some row ↦ λ e. without_links (resource schema row query.fields) (row ∷ []) query.include (resource_plain schema rules w key row query.fields (valid.rows key row e))
-          ] refl
-      target_plain (target.Related key rel) = elim (row_at w key) as (λ o. IfSome (option_map (related_document schema w query rel) o) IsPlain) [ None ↦ tt | Some row ↦ linked_plain row rel (link_at row rel) ]
-      target_plain (target.Linkage key rel) = elim (row_at w key) as (λ o. IfSome (option_map (linkage_document schema rel) o) IsPlain) [
-        | None ↦ tt
-        | Some row ↦ ((tt, tt), (linkage_plain schema (target_of schema row.key.kind rel) (link_at row rel), tt))
-      ]
-      target_plain target.Operations = tt
-
-  -- a fit fetch has at most one cursor
-  related_cursor : (query : Query) (o : Option Relationship) → MatchOption o ⊥ (λ r. FitsQuery schema r.target query) → HasOneCursor query.page
-  related_cursor query None h = absurd h
-  related_cursor query (Some r) h = h.one_cursor
-
-  fit_cursor : (t : Target) (query : Query) → FitsFetch schema (record { target = t; query = query }) → HasOneCursor query.page
-  fit_cursor (target.Collection kind) query fits = fits.1.one_cursor
-  fit_cursor (target.Resource key) query fits = fits.1.one_cursor
-  fit_cursor (target.Related key rel) query fits = related_cursor query (slice_get (relationships_of schema key.kind) rel) fits.1
-  fit_cursor (target.Linkage key rel) query fits = related_cursor query (slice_get (relationships_of schema key.kind) rel) fits.0.1
-  fit_cursor target.Operations query fits = absurd fits
+    target_plain : (t : Target) → IfSome (target_document schema w query t) IsPlain
+    target_plain (target.Collection kind) = page_plain (collection_path schema kind) (rows_of w kind) (collection_world kind)
+    target_plain (target.Resource key) =
+        elim (row_at w key) as (λ o. row_at w key ≡ o → IfSome (option_map (λ row. row_document schema w query (Some row)) o) IsPlain) [
+          | None ↦ λ e. tt
+          | Some row ↦ λ e. without_links (resource schema row query.fields) (row ∷ []) query.include (resource_plain schema rules w key row query.fields (valid.rows key row e))
+        ] refl
+    target_plain (target.Related key rel) = elim (row_at w key) as (λ o. IfSome (option_map (related_document schema w query rel) o) IsPlain) [ None ↦ tt | Some row ↦ linked_plain row rel (link_at row rel) ]
+    target_plain (target.Linkage key rel) = elim (row_at w key) as (λ o. IfSome (option_map (linkage_document schema rel) o) IsPlain) [
+      | None ↦ tt
+      | Some row ↦ ((tt, tt), (linkage_plain schema (target_of schema row.key.kind rel) (link_at row rel), tt))
+    ]
+    target_plain target.Operations = tt
 
   document_body : (c : Content) (o : Option Data) → IfSome o IsPlain → HasPlainBody (document_reply c o)
   document_body c None h = inr (error_document (refusal code.NotFound), error_document_plain (refusal code.NotFound), refl)
@@ -224,9 +218,9 @@ module _ (schema : Schema) (rules : IsTrue (is_schema schema)) where
 
   -- ---- replies
 
-  pub document_plain : (w : World) (fetch : Fetch) → IsValid schema w → HasOneCursor fetch.query.page → IfSome (document schema w fetch) IsPlain
-  document_plain w fetch valid one = target_plain w valid fetch.query one fetch.target
+  pub document_plain : (w : World) (fetch : Fetch) → IsValid schema w → IfSome (document schema w fetch) IsPlain
+  document_plain w fetch valid = target_plain w valid fetch.query fetch.target
 
   pub reply_plain : (w : World) (t : Task) → IsValid schema w → IsFit schema t → HasPlainBody (answer schema w t)
-  reply_plain w (task.Fetch fetch) valid fits = document_body (target_content schema fetch.target) (document schema w fetch) (target_plain w valid fetch.query (fit_cursor fetch.target fetch.query fits) fetch.target)
+  reply_plain w (task.Fetch fetch) valid fits = document_body (target_content schema fetch.target) (document schema w fetch) (target_plain w valid fetch.query fetch.target)
   reply_plain w (task.Change operations form) valid fits = run_body form operations (run schema form w operations) (run_plain form 0 w [] operations valid fits.0)

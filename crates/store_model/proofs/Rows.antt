@@ -31,7 +31,8 @@ use Rattle.json.specs.Print.{escape_byte}
 use Rattle.form_urlencoded.proofs.OnLiterals.{form_urlencoded_on_literals}
 use Rattle.base64.proofs.OnLiterals.{base64_on_literals}
 use Rattle.world_cells.specs.World.{World, empty_world, cell_at}
-use Rattle.store_model.specs.Pages.{Selected, page_of, rows_of}
+use Rattle.store_model.specs.declared.pages.Selected.{Selected}
+use Rattle.store_model.specs.Pages.{page_of, rows_of}
 use Rattle.world_cells.specs.Reads.{covers}
 use Rattle.store_model.specs.Reach.{reach}
 use Rattle.store_model.specs.Answer.{answer, effect, empty_reply}

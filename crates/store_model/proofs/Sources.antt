@@ -16,7 +16,8 @@ use Rattle.error_objects.specs.declared.codes.Code.TheVariants as code
 use Rattle.error_objects.specs.declared.refusals.Refusal.{Refusal}
 use Rattle.ident_rules.specs.Key.{same_key}
 use Rattle.world_cells.specs.World.{World, has_row, next_id, ids_of, link_at}
-use Rattle.store_model.specs.Valid.{last_next}
+use Rattle.world_cells.specs.declared.cells.TheConstants.{LAST_NEXT_ID}
+use Rattle.world_cells.specs.declared.rows.TheConstants.{LINK_LIMIT}
 use Rattle.resource_schema.specs.Kinds.{relationships_of}
 use Rattle.store_model.specs.Change.{Lids, key_of, bind, is_bound, is_referenced, created_key, named_row, member_ids, append_new, first_of, when, at_target, target_blame, refuse_key, refuse_target, refuse_named, refuse_member, refuse_linkage, refuse_links, linkage_pointer, member_pointer, name_pointer, refused}
 use Rattle.task_forms.specs.Fit.{kind_of}
@@ -72,9 +73,9 @@ module _ (in_list : Bool) where
 
   linkage_sound : (there : Key → Bool) (lids : Lids) (pointer : List ℕ) (old : List (List ℕ)) (members : List Member) → Sound (refuse_linkage there lids pointer old members)
   linkage_sound there lids pointer old members =
-      let many = when (nat_lt 1000 (length (append_new old (member_ids lids members)))) (at_pointer code.TooManyMembers pointer) in
+      let many = when (nat_lt LINK_LIMIT (length (append_new old (member_ids lids members)))) (at_pointer code.TooManyMembers pointer) in
       first_sound (map (refuse_member there lids pointer) members ++ many ∷ [])
-      (more_sound (map (refuse_member there lids pointer) members) (many ∷ []) (map_sound (refuse_member there lids pointer) (member_sound there lids pointer) members) (when_sound (nat_lt 1000 (length (append_new old (member_ids lids members)))) (at_pointer code.TooManyMembers pointer) tt, tt))
+      (more_sound (map (refuse_member there lids pointer) members) (many ∷ []) (map_sound (refuse_member there lids pointer) (member_sound there lids pointer) members) (when_sound (nat_lt LINK_LIMIT (length (append_new old (member_ids lids members)))) (at_pointer code.TooManyMembers pointer) tt, tt))
 
   links_sound : (there : Key → Bool) (lids : Lids) (rels : List Relationship) (links : List (ℕ × List Member)) → Sound (refuse_links there lids rels links)
   links_sound there lids rels links = first_sound (map (λ l. refuse_linkage there lids (linkage_pointer rels l.0) [] l.1) links) (map_sound (λ l. refuse_linkage there lids (linkage_pointer rels l.0) [] l.1) (λ l. linkage_sound there lids (linkage_pointer rels l.0) [] l.1) links)
@@ -88,14 +89,14 @@ module _ (in_list : Bool) where
       let key = created_key w kind id in
       let bound = when (is_bound lids kind lid) (at_pointer code.LidBound (codes "/data/lid")) in
       let exists = when (is_some id && has_row w key) (at_pointer code.IdExists (codes "/data/id")) in
-      let ended = when (is_none id && next_id w kind == last_next) (refusal code.IdsEnded) in
+      let ended = when (is_none id && next_id w kind == LAST_NEXT_ID) (refusal code.IdsEnded) in
       let linked = refuse_links (λ k. same_key key k || has_row w k) (bind lids kind lid key.id) (relationships_of schema kind) links in
       first_sound (bound ∷ exists ∷ ended ∷ linked ∷ []) (
         when_sound (is_bound lids kind lid) (at_pointer code.LidBound (codes "/data/lid")) tt,
         (
           when_sound (is_some id && has_row w key) (at_pointer code.IdExists (codes "/data/id")) tt,
           (
-            when_sound (is_none id && next_id w kind == last_next) (refusal code.IdsEnded) refl,
+            when_sound (is_none id && next_id w kind == LAST_NEXT_ID) (refusal code.IdsEnded) refl,
             (links_sound (λ k. same_key key k || has_row w k) (bind lids kind lid key.id) (relationships_of schema kind) links, tt),
           ),
         ),

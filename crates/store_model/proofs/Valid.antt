@@ -11,7 +11,8 @@ use Rattle.resource_schema.specs.declared.schema.Schema.{Schema}
 use Rattle.world_cells.specs.declared.rows.Row.{Row}
 use Rattle.ident_rules.specs.Key.{key_cmp, key_cmp_total, same_key, key_is}
 use Rattle.world_cells.specs.World.{World, row_at, has_row, next_id}
-use Rattle.store_model.specs.Valid.{last_next, IsValidRow, IsValid}
+use Rattle.world_cells.specs.declared.cells.TheConstants.{LAST_NEXT_ID}
+use Rattle.store_model.specs.Valid.{IsValidRow, IsValid}
 use Rattle.store_model.specs.Change.{with_row, with_next}
 use Rattle.store_model.specs.CellLaws.{row-with_row}
 use Rattle.store_model.proofs.Basics.{same_Some}
@@ -41,9 +42,9 @@ still_valid schema w v k row grows valid = record {
 
 -- ---- next ids
 
-pub next_in_range : (schema : Schema) (w : World) (kind : ℕ) → IsValid schema w → (1 ≤ next_id w kind) × (next_id w kind ≤ last_next)
+pub next_in_range : (schema : Schema) (w : World) (kind : ℕ) → IsValid schema w → (1 ≤ next_id w kind) × (next_id w kind ≤ LAST_NEXT_ID)
 next_in_range schema w kind valid =
-    elim (find nat_cmp kind w.counters) as (λ o. find nat_cmp kind w.counters ≡ o → (1 ≤ unwrap_or o 1) × (unwrap_or o 1 ≤ last_next)) [
+    elim (find nat_cmp kind w.counters) as (λ o. find nat_cmp kind w.counters ≡ o → (1 ≤ unwrap_or o 1) × (unwrap_or o 1 ≤ LAST_NEXT_ID)) [
       | None ↦ λ e. (omega arith, omega arith)
       | Some n ↦ λ e. let c = valid.counters kind n e in (above n c.1, c.2)
     ] refl
@@ -67,14 +68,14 @@ grows_with_next w kind n low = record {
       ] refl);
 }
 
-pub valid_with_next : (schema : Schema) (w : World) (kind n : ℕ) → IsValid schema w → kind < length schema → next_id w kind ≤ n → 1 < n → n ≤ last_next → IsValid schema (with_next w kind n)
+pub valid_with_next : (schema : Schema) (w : World) (kind n : ℕ) → IsValid schema w → kind < length schema → next_id w kind ≤ n → 1 < n → n ≤ LAST_NEXT_ID → IsValid schema (with_next w kind n)
 valid_with_next schema w kind n valid known low some high = record {
   rows_sorted = valid.rows_sorted;
   counters_sorted = is_sorted-put nat_cmp nat_cmp_total kind n w.counters valid.counters_sorted;
   rows = λ k row is. still_valid schema w (with_next w kind n) k row (grows_with_next w kind n low) (valid.rows k row is);
   counters = λ j m is.
-      elim (eq_by_cmp nat_cmp j kind) as (λ b. eq_by_cmp nat_cmp j kind ≡ b → cond b (Some n) (find nat_cmp j w.counters) ≡ Some m → (j < length schema) × (1 < m) × (m ≤ last_next)) [
-        | true ↦ λ e is. (subst (λ i. i < length schema) (sym (number_is j kind e)) known, subst (λ i. 1 < i) (same_Some n m is) some, subst (λ i. i ≤ last_next) (same_Some n m is) high)
+      elim (eq_by_cmp nat_cmp j kind) as (λ b. eq_by_cmp nat_cmp j kind ≡ b → cond b (Some n) (find nat_cmp j w.counters) ≡ Some m → (j < length schema) × (1 < m) × (m ≤ LAST_NEXT_ID)) [
+        | true ↦ λ e is. (subst (λ i. i < length schema) (sym (number_is j kind e)) known, subst (λ i. 1 < i) (same_Some n m is) some, subst (λ i. i ≤ LAST_NEXT_ID) (same_Some n m is) high)
         | false ↦ λ e is. valid.counters j m is
       ] refl (sym (counter-with_next w kind n j) ∙ is);
 }

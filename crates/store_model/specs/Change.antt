@@ -31,7 +31,9 @@ use Rattle.error_objects.specs.Refusals.{refusal, at_pointer}
 use Rattle.task_forms.specs.Fit.{kind_of}
 use Rattle.ident_rules.specs.Key.{key_cmp, same_key}
 use Rattle.world_cells.specs.World.{World, row_at, has_row, next_id, ids_of, no_link, link_at, links_to}
-use Rattle.store_model.specs.Valid.{last_next, link_limit, same_id}
+use Rattle.world_cells.specs.declared.cells.TheConstants.{LAST_NEXT_ID}
+use Rattle.world_cells.specs.declared.rows.TheConstants.{LINK_LIMIT}
+use Rattle.store_model.specs.Valid.{same_id}
 use Rattle.resource_schema.specs.Kinds.{relationships_of}
 
 -- ---- local ids ("Resource Identifier Objects"): a finite map from a type and a local id to an id
@@ -121,7 +123,7 @@ member_ids lids members = filter_map (λ m. option_map (λ key. key.id) (key_of 
 abbrev pub refuse_linkage : (Key → Bool) → Lids → List ℕ → List (List ℕ) → List Member → Option Refusal
 refuse_linkage there lids linkage old members =
     first_of (map (refuse_member there lids linkage) members
-    ++ when (nat_lt link_limit (length (append_new old (member_ids lids members)))) (at_pointer code.TooManyMembers linkage) ∷ [])
+    ++ when (nat_lt LINK_LIMIT (length (append_new old (member_ids lids members)))) (at_pointer code.TooManyMembers linkage) ∷ [])
 
 -- the linkages of a resource, in order
 abbrev pub refuse_links : (Key → Bool) → Lids → List Relationship → List (ℕ × List Member) → Option Refusal
@@ -199,7 +201,7 @@ refused schema w lids (Create kind id lid values links) =
     first_of (
     when (is_bound lids kind lid) (at_pointer code.LidBound (codes "/data/lid"))
     ∷ when (is_some id && has_row w key) (at_pointer code.IdExists (codes "/data/id"))
-    ∷ when (is_none id && next_id w kind == last_next) (refusal code.IdsEnded)
+    ∷ when (is_none id && next_id w kind == LAST_NEXT_ID) (refusal code.IdsEnded)
     ∷ refuse_links (λ k. same_key key k || has_row w k) (bind lids kind lid key.id) (relationships_of schema kind) links
     ∷ [])
 refused schema w lids (Update who values links) = first_of (refuse_target w lids who ∷ refuse_links (has_row w) lids (relationships_of schema (kind_of who.named)) links ∷ [])

@@ -4,7 +4,7 @@ use Rattle.std.specs.Option.{option_map_or}
 use Rattle.std.specs.Cmp.Lexicographic.{slice_cmp}
 use Rattle.std.specs.Ordering.{nat_cmp, is_gt}
 use Rattle.std.specs.Str.{bytes_eq}
-use Rattle.serde_json.specs.Data.{Data, null, string, array}
+use Rattle.serde_json.specs.Data.{Data, null, boolean, string, array}
 use Rattle.serde_json.specs.View.{items_of}
 use Rattle.resource_schema.specs.declared.schema.Schema.{Schema}
 use Rattle.resource_schema.specs.declared.targets.Target.{Target}
@@ -19,7 +19,9 @@ use Rattle.task_forms.specs.declared.queries.Path.{Path}
 use Rattle.task_forms.specs.declared.tasks.Fetch.{Fetch}
 use Rattle.request_model.specs.Links.{with_query}
 use Rattle.request_model.specs.Cursors.{cursor_text}
-use Rattle.store_model.specs.Pages.{Selected, place_of, page_of, rows_of, rows_at, first_item, last_item}
+use Rattle.store_model.specs.Pages.{place_of, page_of, rows_of, rows_at, first_item, last_item}
+use Rattle.store_model.specs.declared.pages.Selected.{Selected}
+use Rattle.error_objects.specs.ErrorReply.{only}
 use Rattle.store_model.specs.Included.{included}
 use Rattle.store_model.specs.Resource.{object_of, linkage, resource, collection_path, related_path}
 
@@ -66,6 +68,15 @@ abbrev pub included_member : Schema → World → Query → List Row → Option 
 included_member schema w query primaries None = []
 included_member schema w query primaries (Some paths) = (codes "included", resources schema query (included schema w (map (λ row. row.key) primaries) paths)) ∷ []
 
+-- what a document tells of a range that is cut short (Cursor Pagination profile, "Range Pagination")
+abbrev pub truncated_data : Data
+truncated_data = only (codes "page") (only (codes "rangeTruncated") (boolean true))
+
+-- `meta` is there exactly where a range is cut short
+abbrev pub meta_member : Bool → List (List ℕ × Data)
+meta_member true = (codes "meta", truncated_data) ∷ []
+meta_member false = []
+
 -- a page of rows, with its links
 abbrev pub page_document : Schema → World → Query → List ℕ → List Row → Data
 page_document schema w query path rows =
@@ -73,7 +84,7 @@ page_document schema w query path rows =
     object_of (
     (codes "data", resources schema query page.rows)
     ∷ (included_member schema w query page.rows query.include
-    ++ (codes "links", page_links path query page) ∷ []))
+    ++ (codes "links", page_links path query page) ∷ meta_member page.truncated))
 
 -- one row, or null
 abbrev pub row_document : Schema → World → Query → Option Row → Data

@@ -38,8 +38,9 @@ use Rattle.resource_schema.specs.declared.targets.Target.{Target}
 use Rattle.resource_schema.specs.declared.targets.Target.TheVariants as target
 use Rattle.task_forms.specs.declared.queries.Query.{Query}
 use Rattle.store_model.specs.Resource.{Fields, object_of, identifier, linkage, is_shown, relationship_object, relationship_members, resource}
-use Rattle.store_model.specs.Document.{resources}
-use Rattle.store_model.specs.Pages.{Selected, place_cmp, place_of, first_item, last_item}
+use Rattle.store_model.specs.Document.{resources, meta_member}
+use Rattle.store_model.specs.declared.pages.Selected.{Selected}
+use Rattle.store_model.specs.Pages.{place_cmp, place_of, first_item, last_item, ends_at_cursor, is_range}
 use Rattle.store_model.specs.Included.{IsReachedFrom}
 
 -- each item stands in a relation to all that follow it
@@ -149,14 +150,26 @@ pub record AreSorted (sort : List SortKey) (rows listed : List Row) : Type 0 whe
   pub in_order : Pairwise (IsBefore sort) listed
   pub same_rows : (row : Row) → IsIn listed row ↔ IsIn rows row
 
--- behind the one cursor, and before the other
+-- behind the one cursor, and before the other, as far as they are given
 abbrev pub IsBetween : List SortKey → Option Place → Option Place → Place → Type 0
 IsBetween sort after before p = IfSome after (λ cursor. IsTrue (is_lt (place_cmp sort cursor p))) × IfSome before (λ cursor. IsTrue (is_lt (place_cmp sort p cursor)))
 
+-- a row stands before all that are shown, or behind them all
+abbrev pub StandsOutside : List SortKey → Bool → List Row → Row → Type 0
+StandsOutside sort true shown row = AllByRecursion (IsBefore sort row) shown
+StandsOutside sort false shown row = AllByRecursion (λ other. IsBefore sort other row) shown
+
 -- A row for which a full page has no room: it stands behind all that are shown, or before them where the page ends at a cursor.
 abbrev pub HasNoRoom : List SortKey → Page → List Row → Row → Type 0
-HasNoRoom sort page shown row =
-    (length shown ≡ page.size) × MatchOption page.before (AllByRecursion (λ other. IsBefore sort other row) shown) (λ cursor. AllByRecursion (IsBefore sort row) shown)
+HasNoRoom sort page shown row = (length shown ≡ page.size) × StandsOutside sort (ends_at_cursor page) shown row
+
+-- a range is cut short: a row between its cursors has no room
+pub record IsCutShort (sort : List SortKey) (page : Page) (rows shown : List Row) : Type 0 where
+  pub range : IsTrue (is_range page)
+  pub row : Row
+  pub among : IsIn rows row
+  pub between : IsBetween sort page.after page.before (place_of sort row)
+  pub no_room : HasNoRoom sort page shown row
 
 -- a row stands before the first that is shown
 pub record HasEarlier (sort : List SortKey) (rows shown : List Row) : Type 0 where
@@ -174,10 +187,6 @@ pub record HasLater (sort : List SortKey) (rows shown : List Row) : Type 0 where
   pub among : IsIn rows row
   pub later : IsBefore sort last row
 
--- at most one cursor
-abbrev pub HasOneCursor : Page → Type 0
-HasOneCursor page = IsTrue (is_some page.after) → page.before ≡ None
-
 -- One page of some rows: in order, at most the size, each asked for, and none that is asked for left out while there is room.
 pub record IsPage (sort : List SortKey) (page : Page) (rows : List Row) (shown : Selected) : Type 0 where
   pub in_order : Pairwise (IsBefore sort) shown.rows
@@ -186,6 +195,7 @@ pub record IsPage (sort : List SortKey) (page : Page) (rows : List Row) (shown :
   pub whole : (row : Row) → IsIn rows row → IsBetween sort page.after page.before (place_of sort row) → IsIn shown.rows row ⊎ HasNoRoom sort page shown.rows row
   pub has_earlier : IsTrue shown.before ↔ HasEarlier sort rows shown.rows
   pub has_later : IsTrue shown.after ↔ HasLater sort rows shown.rows
+  pub is_cut_short : IsTrue shown.truncated ↔ IsCutShort sort page rows shown.rows
 
 -- ---- compound documents (JSON:API 1.1, "Compound Documents")
 
@@ -239,7 +249,8 @@ links_part (Some links) = (codes "links", links) ∷ []
 pub record ShowsRows (schema : Schema) (query : Query) (primaries more : List Row) (d : Data) : Type 0 where
   pub primary : Data
   pub links : Option Data
-  pub is : d ≡ object_of ((codes "data", primary) ∷ (included_part schema query more query.include ++ links_part links))
+  pub truncated : Bool
+  pub is : d ≡ object_of ((codes "data", primary) ∷ (included_part schema query more query.include ++ (links_part links ++ meta_member truncated)))
   pub shows : (primary ≡ resources schema query primaries) ⊎ IsOneOrNull schema query primaries primary
 
 -- the targets whose documents show resources, and not linkage alone

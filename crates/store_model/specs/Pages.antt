@@ -1,5 +1,5 @@
 -- The order of rows, and one page of them (JSON:API 1.1, "Sorting"; Cursor Pagination profile).
-use Rattle.std.specs.Prelude.{ℕ, ℤ, ◌-◌, ◌==◌, Bool, true, false, List, [], ◌∷◌, map, length, take, drop, get_or, Some, None, Option, pos, refl}
+use Rattle.std.specs.Prelude.{ℕ, ℤ, ◌-◌, ◌==◌, ◌&&◌, nat_lt, is_none, is_some, Bool, true, false, List, [], ◌∷◌, map, length, take, drop, get_or, Some, None, Option, pos, refl}
 use Rattle.std.specs.Option.{option_map_or}
 use Rattle.std.specs.List.{list_any, filter_map, last_or}
 use Rattle.std.specs.declared.cmp.Ordering.{Ordering}
@@ -15,6 +15,7 @@ use Rattle.resource_schema.specs.declared.values.Place.{Place}
 use Rattle.world_cells.specs.declared.rows.Row.{Row}
 use Rattle.task_forms.specs.declared.queries.SortKey.{SortKey}
 use Rattle.task_forms.specs.declared.queries.Page.{Page}
+use Rattle.store_model.specs.declared.pages.Selected.{Selected}
 use Rattle.ident_rules.specs.IdOrder.{id_cmp, id_cmp_total}
 use Rattle.ident_rules.specs.Key.{key_cmp}
 use Rattle.world_cells.specs.World.{World, row_at}
@@ -95,28 +96,35 @@ first_item (x ∷ xs) = Some x
 abbrev pub last_item : {A : Type 0} → List A → Option A
 last_item = last_or None
 
--- the items behind a cursor, and those before one
-abbrev pub behind : List SortKey → Place → List (Place × Row) → List (Place × Row)
-behind sort cursor all = where_key (place_cmp sort) (λ p. is_lt (place_cmp sort cursor p)) all
+-- behind a cursor, and ahead of one, where it is given
+abbrev pub is_behind : List SortKey → Option Place → Place → Bool
+is_behind sort None p = true
+is_behind sort (Some cursor) p = is_lt (place_cmp sort cursor p)
 
-abbrev pub before : List SortKey → Place → List (Place × Row) → List (Place × Row)
-before sort cursor all = where_key (place_cmp sort) (λ p. is_lt (place_cmp sort p cursor)) all
+abbrev pub is_ahead : List SortKey → Option Place → Place → Bool
+is_ahead sort None p = true
+is_ahead sort (Some cursor) p = is_lt (place_cmp sort p cursor)
 
--- The first items behind a cursor, the last before one, or else the first (Cursor Pagination profile, "page[after] and page[before]").
-abbrev pub slice_between : List SortKey → ℕ → Option Place → Option Place → List (Place × Row) → List (Place × Row)
-slice_between sort size (Some cursor) low all = take size (behind sort cursor all)
-slice_between sort size None (Some cursor) all = last_items size (before sort cursor all)
-slice_between sort size None None all = take size all
+-- the items behind the one cursor and ahead of the other, as far as they are given
+abbrev pub asked_for : List SortKey → Page → List (Place × Row) → List (Place × Row)
+asked_for sort page all = where_key (place_cmp sort) (λ p. is_behind sort page.after p && is_ahead sort page.before p) all
 
--- the slice that a page asks for
+-- `page[before]` alone is given, so that the page ends at a cursor
+abbrev pub ends_at_cursor : Page → Bool
+ends_at_cursor page = is_none page.after && is_some page.before
+
+-- both cursors are given ("Range Pagination")
+abbrev pub is_range : Page → Bool
+is_range page = is_some page.after && is_some page.before
+
+-- the last n items, or the first n
+abbrev pub cut_to : {A : Type 0} → Bool → ℕ → List A → List A
+cut_to true n xs = last_items n xs
+cut_to false n xs = take n xs
+
+-- Of the items that are asked for the last ones where the page ends at a cursor, else the first (Cursor Pagination profile, "page[after] and page[before]").
 abbrev pub slice_of : List SortKey → Page → List (Place × Row) → List (Place × Row)
-slice_of sort page all = slice_between sort page.size page.after page.before all
-
--- the rows of a page, and whether a row stands before its first and behind its last
-pub record Selected : Type 0 where
-  pub rows : List Row
-  pub before : Bool
-  pub after : Bool
+slice_of sort page all = cut_to (ends_at_cursor page) page.size (asked_for sort page all)
 
 -- whether an item stands before the first, and behind the last
 abbrev pub any_before : List SortKey → List (Place × Row) → List (Place × Row) → Bool
@@ -125,12 +133,16 @@ any_before sort items all = option_map_or (λ e. list_any (λ other. is_lt (plac
 abbrev pub any_after : List SortKey → List (Place × Row) → List (Place × Row) → Bool
 any_after sort items all = option_map_or (λ e. list_any (λ other. is_lt (place_cmp sort e.0 other.0)) all) (last_item items) false
 
+-- a range has more items than the page shows
+abbrev pub is_truncated : List SortKey → Page → List (Place × Row) → Bool
+is_truncated sort page all = is_range page && nat_lt page.size (length (asked_for sort page all))
+
 -- one page of some rows; without a row, nothing stands before or behind it
 abbrev pub page_of : List SortKey → Page → List Row → Selected
 page_of sort page rows =
     let all = by_place sort rows in
     let items = slice_of sort page all in
-    record { rows = map (λ e. e.1) items; before = any_before sort items all; after = any_after sort items all }
+    record { rows = map (λ e. e.1) items; before = any_before sort items all; after = any_after sort items all; truncated = is_truncated sort page all }
 
 -- the rows of a type, by id
 abbrev pub rows_of : World → ℕ → List Row

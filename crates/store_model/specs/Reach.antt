@@ -11,6 +11,7 @@ use Rattle.world_cells.specs.declared.rows.Row.{Row}
 use Rattle.task_forms.specs.declared.operations.Member.{Member}
 use Rattle.task_forms.specs.declared.operations.Who.{Who}
 use Rattle.task_forms.specs.declared.queries.Page.{Page}
+use Rattle.task_forms.specs.declared.queries.Path.{Path}
 use Rattle.task_forms.specs.declared.queries.SortKey.{SortKey}
 use Rattle.error_objects.specs.declared.refusals.Refusal.{Refusal}
 use Rattle.resource_schema.specs.declared.targets.Target.{Target}
@@ -24,8 +25,8 @@ use Rattle.task_forms.specs.declared.operations.Operation.TheVariants.{Create, U
 use Rattle.ident_rules.specs.IdOrder.{id_cmp}
 use Rattle.world_cells.specs.World.{World, row_at, linked}
 use Rattle.store_model.specs.Change.{Lids, Changed, key_of, bind, created_key, apply}
-use Rattle.store_model.specs.Pages.{page_of, rows_of, first_item, last_item}
-use Rattle.store_model.specs.Included.{has_key}
+use Rattle.store_model.specs.Pages.{page_of, rows_of, rows_at, first_item, last_item}
+use Rattle.store_model.specs.Included.{has_key, included}
 use Rattle.store_model.specs.Document.{included_rows}
 
 -- the Row keys among these
@@ -60,7 +61,8 @@ not_above high x = option_map_or (λ b. not (is_lt (id_cmp b x))) high true
 abbrev pub past_cursor : Page → List ℕ → Bool
 past_cursor page x = option_map_or (λ c. is_lt (id_cmp c.id x)) page.after true && option_map_or (λ c. is_lt (id_cmp x c.id)) page.before true
 
--- Without a row on the page: each id on the asked side of the cursor. Else from the item before the page to the item behind it.
+-- Without a row on the page: each id that is asked for, behind the one cursor and before the other as far as they are given. 
+-- Else from the item before the page to the item behind it.
 abbrev pub in_page_range : List Row → Page → List Row → List ℕ → Bool
 in_page_range all page [] x = past_cursor page x
 in_page_range all page (first ∷ items) x =
@@ -72,9 +74,29 @@ abbrev pub reach_sorted : World → ℕ → Page → List SortKey → Key → Bo
 reach_sorted w kind page [] r = let all = rows_of w kind in r.kind == kind && in_page_range all page ((page_of [] page all).rows) r.id
 reach_sorted w kind page (s ∷ sort) r = r.kind == kind
 
--- what a collection looks at
-abbrev pub reach_collection : World → ℕ → Query → CellKey → Bool
-reach_collection w kind query k = is_row_of (reach_sorted w kind query.page query.sort) k
+-- what a page of a collection looks at
+abbrev pub reach_collection : World → ℕ → List SortKey → Page → CellKey → Bool
+reach_collection w kind sort page k = is_row_of (reach_sorted w kind page sort) k
+
+-- ---- pages of rows, and walks along paths
+
+-- the rows of a type, or those at some keys
+pub data Members : Type 0 where
+  of_kind : ℕ → Members
+  listed : List Key → Members
+
+abbrev pub member_rows : World → Members → List Row
+member_rows w (of_kind kind) = rows_of w kind
+member_rows w (listed keys) = rows_at w keys
+
+-- what selecting a page of them looks at
+abbrev pub reach_page : Members → List SortKey → Page → World → CellKey → Bool
+reach_page (of_kind kind) sort page w k = reach_collection w kind sort page k
+reach_page (listed keys) sort page w k = is_row_in keys k
+
+-- what a walk along paths looks at: the primaries, and what it finds
+abbrev pub reach_walk : Schema → List Key → List Path → World → CellKey → Bool
+reach_walk schema primaries paths w k = is_row_in primaries k || is_row_in (map (λ row. row.key) (included schema w primaries paths)) k
 
 -- ---- fetches
 
@@ -84,7 +106,7 @@ linked_keys_of schema row rel = option_map_or (λ r. linked schema r rel) row []
 
 -- what a target looks at
 abbrev pub reach_target : Schema → World → Query → Target → CellKey → Bool
-reach_target schema w query (target.Collection kind) k = reach_collection w kind query k
+reach_target schema w query (target.Collection kind) k = reach_collection w kind query.sort query.page k
 reach_target schema w query (target.Resource key) k = is_row_in (key ∷ []) k
 reach_target schema w query (target.Related key rel) k = is_row_in (key ∷ linked_keys_of schema (row_at w key) rel) k
 reach_target schema w query (target.Linkage key rel) k = is_row_in (key ∷ []) k

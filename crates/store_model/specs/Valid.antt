@@ -1,5 +1,5 @@
 -- When a world is valid (of this project, within JSON:API 1.1, "Resource Objects" and "Resource Linkage").
-use Rattle.std.specs.Prelude.{◌≡◌, ℕ, ◌<◌, ◌≤◌, ◌^◌, ◌-◌, Bool, true, false, T, IsTrue, List, length, Some, decimal}
+use Rattle.std.specs.Prelude.{◌≡◌, ℕ, ◌<◌, ◌≤◌, Bool, true, false, T, IsTrue, List, length, Some, decimal}
 use Rattle.std.specs.List.{IsDistinct, AllZip}
 use Rattle.std.specs.Ordering.{nat_cmp, eq_by_cmp}
 use Rattle.std.specs.Str.Parse.{AllDigits}
@@ -12,6 +12,8 @@ use Rattle.resource_schema.specs.declared.kinds.Relationship.{Relationship}
 use Rattle.resource_schema.specs.Kinds.{attributes_of, relationships_of}
 use Rattle.resource_schema.specs.Forms.{HasForm}
 use Rattle.world_cells.specs.declared.keys.CellKey.{CellKey}
+use Rattle.world_cells.specs.declared.cells.TheConstants.{LAST_NEXT_ID}
+use Rattle.world_cells.specs.declared.rows.TheConstants.{LINK_LIMIT}
 use Rattle.world_cells.specs.declared.rows.Row.{Row}
 use Rattle.world_cells.specs.declared.rows.Link.{Link}
 use Rattle.world_cells.specs.declared.rows.Link.TheVariants.{One, Many}
@@ -23,18 +25,10 @@ use Rattle.world_cells.specs.Reads.{Cells, AgreeOn}
 abbrev pub same_id : List ℕ → List ℕ → Bool
 same_id = eq_by_cmp id_cmp
 
--- the most links of one relationship
-abbrev pub link_limit : ℕ
-link_limit = 1000
-
--- one link or none of a to-one relationship; distinct links of a to-many one, at most 1,000
+-- one link or none of a to-one relationship; distinct links of a to-many one, at most `LINK_LIMIT`
 abbrev pub IsLinkOf : Relationship → Link → Type 0
 IsLinkOf r (One x) = r.many ≡ false
-IsLinkOf r (Many xs) = (r.many ≡ true) × IsDistinct same_id xs × (length xs ≤ link_limit)
-
--- the greatest next id
-abbrev pub last_next : ℕ
-last_next = 2 ^ 63 - 1
+IsLinkOf r (Many xs) = (r.many ≡ true) × IsDistinct same_id xs × (length xs ≤ LINK_LIMIT)
 
 -- A row at its own key, of a known type, with the values and links of that type; each link leads to a row, and an id of
 -- digits alone is a number that the server gave.
@@ -46,12 +40,12 @@ pub record IsValidRow (schema : Schema) (w : World) (k : Key) (row : Row) : Type
   pub leads_to_rows : (rel : ℕ) (to : Key) → IsTrue (links_to schema row rel to) → IsTrue (has_row w to)
   pub counted : AllDigits 10 k.id → (n : ℕ) × (k.id ≡ decimal n) × (1 ≤ n) × (n < next_id w k.kind)
 
--- Each row is valid; next ids are of known types, from 1 to the greatest; both lists are in the order of their keys.
+-- Each row is valid; next ids are of known types, from 1 to `LAST_NEXT_ID`; both lists are in the order of their keys.
 pub record IsValid (schema : Schema) (w : World) : Type 0 where
   pub rows_sorted : T (is_sorted key_cmp w.rows)
   pub counters_sorted : T (is_sorted nat_cmp w.counters)
   pub rows : (k : Key) (row : Row) → row_at w k ≡ Some row → IsValidRow schema w k row
-  pub counters : (kind n : ℕ) → find nat_cmp kind w.counters ≡ Some n → (kind < length schema) × (1 < n) × (n ≤ last_next)
+  pub counters : (kind n : ℕ) → find nat_cmp kind w.counters ≡ Some n → (kind < length schema) × (1 < n) × (n ≤ LAST_NEXT_ID)
 
 -- a valid world whose cells agree with a store on what was read
 pub record IsPossible (schema : Schema) (reads : ReadSet) (store : Cells) (w : World) : Type 0 where

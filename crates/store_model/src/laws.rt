@@ -25,7 +25,7 @@ ghost use Rattle.resource_schema.specs.SchemaRules.{is_schema};
 ghost use Rattle.task_forms.specs.Fit.{IsFit};
 ghost use Rattle.task_forms.specs.declared.tasks.Task.{Task};
 ghost use Rattle.store_model.specs.StoreMeaning.{meaning_of};
-ghost use Rattle.store_model.specs.Laws.{AreApart, AreIncluded, AreRowsAt, AreRowsOf, HasOneCursor, IsAllOrNothing, IsPage, IsFullyLinked, IsPlaced, HasPlainBody, AreSorted, ShowsResources, ShowsRows, is_list};
+ghost use Rattle.store_model.specs.Laws.{AreApart, AreIncluded, AreRowsAt, AreRowsOf, IsAllOrNothing, IsPage, IsFullyLinked, IsPlaced, HasPlainBody, AreSorted, ShowsResources, ShowsRows, is_list};
 
 /// The store's tasks keep what every meaning of tasks keeps: the empty world is valid and has no cell, a fit task leads
 /// from a valid world to a valid one, and a fetch and a reply of status 400 or above change nothing.
@@ -64,18 +64,18 @@ pub fn sorting_is_exact()
 {}
 
 /// A page is in order, at most as long as was asked, has nothing that was not asked for and leaves nothing out while it
-/// has room, and says whether a row stands before it and behind it: of any rows that their ids tell apart, of a
+/// has room, and says whether a row stands before it and behind it and whether a range was cut short: of any rows that their ids tell apart, of a
 /// collection, and of what a relationship leads to (Cursor Pagination profile).
 pub fn pages_are_exact()
-    ensures rows { (sort : List SortKey) (page : Page) (rows : List Row) → AreApart rows → HasOneCursor page → IsPage sort page rows (page_of sort page rows) }
-    ensures collections { (schema : List Kind) (w : World) (kind : ℕ) (sort : List SortKey) (page : Page) → IsValid schema w → HasOneCursor page → IsPage sort page (rows_of w kind) (page_of sort page (rows_of w kind)) }
-    ensures relationships { (schema : List Kind) (w : World) (row : Row) (rel : ℕ) (sort : List SortKey) (page : Page) → IsValid schema w → HasOneCursor page → IsPage sort page (rows_at w (linked schema row rel)) (page_of sort page (rows_at w (linked schema row rel))) }
+    ensures rows { (sort : List SortKey) (page : Page) (rows : List Row) → AreApart rows → IsPage sort page rows (page_of sort page rows) }
+    ensures collections { (schema : List Kind) (w : World) (kind : ℕ) (sort : List SortKey) (page : Page) → IsValid schema w → IsPage sort page (rows_of w kind) (page_of sort page (rows_of w kind)) }
+    ensures relationships { (schema : List Kind) (w : World) (row : Row) (rel : ℕ) (sort : List SortKey) (page : Page) → IsValid schema w → IsPage sort page (rows_at w (linked schema row rel)) (page_of sort page (rows_at w (linked schema row rel))) }
 {}
 
 /// A document shows each resource once, all of them rows of one world, and each that is included is reached from a primary
 /// by links that are shown, unless a field set leaves them out, between resources that it shows ("Compound Documents"); its resource objects are those of these rows.
 pub fn documents_are_fully_linked()
-    ensures linked { (schema : List Kind) (w : World) (fetch : Fetch) → IsValid schema w → HasOneCursor fetch.query.page → IsFullyLinked schema w fetch.query.fields (primary_rows schema w fetch.query fetch.target) (included_rows schema w fetch) }
+    ensures linked { (schema : List Kind) (w : World) (fetch : Fetch) → IsValid schema w → IsFullyLinked schema w fetch.query.fields (primary_rows schema w fetch.query fetch.target) (included_rows schema w fetch) }
     ensures shown { (schema : List Kind) (w : World) (fetch : Fetch) → ShowsResources fetch.target → IfSome (document schema w fetch) (ShowsRows schema fetch.query (primary_rows schema w fetch.query fetch.target) (included_rows schema w fetch)) }
 {}
 
@@ -84,6 +84,6 @@ pub fn documents_are_fully_linked()
 /// section 4, leaves the order open).
 pub fn replies_are_plain()
     ensures replies { (schema : List Kind) (w : World) (t : Task) → IsTrue (is_schema schema) → IsValid schema w → IsFit schema t → HasPlainBody (answer schema w t) }
-    ensures documents { (schema : List Kind) (w : World) (fetch : Fetch) → IsTrue (is_schema schema) → IsValid schema w → HasOneCursor fetch.query.page → IfSome (document schema w fetch) IsPlain }
+    ensures documents { (schema : List Kind) (w : World) (fetch : Fetch) → IsTrue (is_schema schema) → IsValid schema w → IfSome (document schema w fetch) IsPlain }
     ensures resources { (schema : List Kind) (w : World) (k : Key) (row : Row) (fields : Fields) → IsTrue (is_schema schema) → IsValidRow schema w k row → IsPlain (resource schema row fields) }
 {}

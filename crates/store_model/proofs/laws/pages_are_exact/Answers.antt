@@ -5,10 +5,10 @@ use Rattle.store_model.specs.Pages.{rows_of, rows_at}
 use Rattle.world_cells.specs.World.{linked}
 
 pub returns-clause-rows : goal.returns-clause-rows
-returns-clause-rows c = λ sort page rows apart one. page_exact sort rows apart page one
+returns-clause-rows c = λ sort page rows apart. page_exact sort rows apart page
 
 pub returns-clause-collections : goal.returns-clause-collections
-returns-clause-collections c = λ schema w kind sort page valid one. page_exact sort (rows_of w kind) (rows_of_apart schema w valid kind) page one
+returns-clause-collections c = λ schema w kind sort page valid. page_exact sort (rows_of w kind) (rows_of_apart schema w valid kind) page
 
 pub returns-clause-relationships : goal.returns-clause-relationships
-returns-clause-relationships c = λ schema w row rel sort page valid one. page_exact sort (rows_at w (linked schema row rel)) (linked_apart schema w valid row rel) page one
+returns-clause-relationships c = λ schema w row rel sort page valid. page_exact sort (rows_at w (linked schema row rel)) (linked_apart schema w valid row rel) page
