@@ -1,6 +1,7 @@
 -- Histories of a toy meaning, whose every task takes the next id of one type.
 use Rattle.std.specs.Prelude.{◌≡◌, ℕ, ◌+◌, ◌<◌, ◌≤◌, true, false, ⊤, List, [], ◌∷◌, Some, None, refl}
 use Rattle.std.proofs.Common.{inl, inr, arith}
+use Rattle.ident_rules.specs.Owned.{entries_by}
 use Rattle.http_messages.specs.declared.messages.Reply.{Reply}
 use Rattle.http_messages.specs.declared.messages.Content.TheVariants as content
 use Rattle.http_messages.specs.declared.messages.Allow.TheVariants as allow
@@ -12,7 +13,7 @@ use Rattle.task_forms.specs.declared.tasks.Task.TheVariants as task
 use Rattle.task_forms.specs.declared.tasks.ReplyForm.TheVariants as reply_form
 use Rattle.task_forms.specs.Meaning.{Meaning, IsLegal, world_after}
 use Rattle.history_model.specs.declared.checks.Check.TheVariants as check
-use Rattle.history_model.specs.Histories.{world_at, entries_by, last_dropped, Noted}
+use Rattle.history_model.specs.Histories.{world_at, last_dropped, Noted}
 use Rattle.history_model.specs.Standing.{Log, Keeps, Judges}
 
 -- the reply tells the next id as a status
@@ -58,13 +59,13 @@ the_world_before_the_first = refl
 the_world_past_the_last_is_the_last : next_id (world_at toy 10 empty_world three 99) 0 ≡ 4
 the_world_past_the_last_is_the_last = refl
 
-the_entries_of_seven : entries_by (7 ∷ []) three ≡ entry 7 1 ∷ entry 7 3 ∷ []
+the_entries_of_seven : entries_by (λ e. e.by) (7 ∷ []) three ≡ entry 7 1 ∷ entry 7 3 ∷ []
 the_entries_of_seven = refl
 
-the_entries_of_seven_and_eight : entries_by (8 ∷ 7 ∷ []) three ≡ three
+the_entries_of_seven_and_eight : entries_by (λ e. e.by) (8 ∷ 7 ∷ []) three ≡ three
 the_entries_of_seven_and_eight = refl
 
-the_entries_of_nobody : entries_by [] three ≡ []
+the_entries_of_nobody : entries_by (λ e. e.by) [] three ≡ []
 the_entries_of_nobody = refl
 
 -- ---- logs

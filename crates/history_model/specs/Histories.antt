@@ -1,5 +1,6 @@
 -- Histories: the worlds in them, what their entries write, conflicts and passes (all of this project).
-use Rattle.std.specs.Prelude.{◌≡◌, ◌≢◌, ℕ, ◌+◌, ◌-◌, ◌<◌, ◌≤◌, ◌==◌, ◌||◌, ◌⊎◌, Bool, false, if◌then◌else◌, IsTrue, List, [], ◌∷◌, take, length, Some, None, Option, MatchOption}
+use Rattle.std.specs.Prelude.{◌≡◌, ◌≢◌, ℕ, ◌+◌, ◌-◌, ◌<◌, ◌≤◌, ◌==◌, ◌⊎◌, if◌then◌else◌, IsTrue, List, [], ◌∷◌, take, length, Some, None, Option, MatchOption}
+use Rattle.ident_rules.specs.Owned.{entries_by}
 use Rattle.world_cells.specs.declared.keys.CellKey.{CellKey}
 use Rattle.world_cells.specs.declared.sets.ReadSet.{ReadSet}
 use Rattle.task_forms.specs.declared.tasks.Entry.{Entry}
@@ -87,16 +88,7 @@ MayRefuse m first w entries t at window =
 
 -- ---- passes
 
-abbrev pub is_among : ℕ → List ℕ → Bool
-is_among n [] = false
-is_among n (x ∷ xs) = (n == x) || is_among n xs
-
--- the entries that were made by one of these, in order
-abbrev pub entries_by : List ℕ → List Entry → List Entry
-entries_by numbers [] = []
-entries_by numbers (e ∷ entries) = if is_among e.by numbers then e ∷ entries_by numbers entries else entries_by numbers entries
-
 -- a legal history that was seen, and the entries of it that are one's own
 pub record IsPass (m : Meaning) (w : World) (numbers : List ℕ) (seen mine : List Entry) : Type 0 where
   pub legal : IsLegal m w seen
-  pub own : mine ≡ entries_by numbers seen
+  pub own : mine ≡ entries_by (λ e. e.by) numbers seen

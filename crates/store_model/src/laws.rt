@@ -16,6 +16,7 @@ ghost use Rattle.task_forms.specs.declared.tasks.ReplyForm.{ReplyForm};
 ghost use Rattle.store_model.specs.Valid.{IsValid, IsValidRow};
 ghost use Rattle.store_model.specs.Run.{run};
 ghost use Rattle.store_model.specs.Pages.{page_of, rows_of, rows_at, sorted};
+ghost use Rattle.store_model.specs.declared.pages.Selected.{Selected};
 ghost use Rattle.store_model.specs.Included.{included};
 ghost use Rattle.store_model.specs.Document.{document, primary_rows, included_rows};
 ghost use Rattle.store_model.specs.Answer.{answer};
@@ -86,4 +87,20 @@ pub fn replies_are_plain()
     ensures replies { (schema : List Kind) (w : World) (t : Task) → IsTrue (is_schema schema) → IsValid schema w → IsFit schema t → HasPlainBody (answer schema w t) }
     ensures documents { (schema : List Kind) (w : World) (fetch : Fetch) → IsTrue (is_schema schema) → IsValid schema w → IfSome (document schema w fetch) IsPlain }
     ensures resources { (schema : List Kind) (w : World) (k : Key) (row : Row) (fields : Fields) → IsTrue (is_schema schema) → IsValidRow schema w k row → IsPlain (resource schema row fields) }
+{}
+
+/// A page is told by its properties: two that are one page of some rows are equal, so that a scan may prove the
+/// property and has the definition.
+pub fn page_is_one()
+    ensures { (sort : List SortKey) (page : Page) (rows : List Row) (a b : Selected) → IsPage sort page rows a → IsPage sort page rows b → a ≡ b }
+{}
+
+/// A sorted list is told by its properties.
+pub fn sorted_is_one()
+    ensures { (sort : List SortKey) (rows a b : List Row) → AreSorted sort rows a → AreSorted sort rows b → a ≡ b }
+{}
+
+/// What is included is told by its properties.
+pub fn included_is_one()
+    ensures { (schema : List Kind) (w : World) (primaries : List Key) (paths : List Path) (a b : List Row) → AreIncluded schema w primaries paths a → AreIncluded schema w primaries paths b → a ≡ b }
 {}
