@@ -1,7 +1,6 @@
 -- Histories of a toy meaning, whose every task takes the next id of one type.
 use Rattle.std.specs.Prelude.{◌≡◌, ℕ, ◌+◌, ◌<◌, ◌≤◌, true, false, ⊤, List, [], ◌∷◌, Some, None, refl}
 use Rattle.std.proofs.Common.{inl, inr, arith}
-use Rattle.ident_rules.specs.Owned.{entries_by}
 use Rattle.http_messages.specs.declared.messages.Reply.{Reply}
 use Rattle.http_messages.specs.declared.messages.Content.TheVariants as content
 use Rattle.http_messages.specs.declared.messages.Allow.TheVariants as allow
@@ -14,16 +13,16 @@ use Rattle.task_forms.specs.declared.tasks.ReplyForm.TheVariants as reply_form
 use Rattle.task_forms.specs.Meaning.{Meaning, IsLegal, world_after}
 use Rattle.history_model.specs.declared.checks.Check.TheVariants as check
 use Rattle.history_model.specs.Histories.{world_at, last_dropped, Noted}
-use Rattle.history_model.specs.Standing.{Log, Keeps, Judges}
+use Rattle.history_model.specs.Standing.{Log, Keeps, LogSays}
 
 -- the reply tells the next id as a status
-abbrev told_by : World → Reply
+abbrev pub told_by : World → Reply
 told_by w = record { status = next_id w 0; content = content.Nothing; location = None; allow = allow.Nothing; body = [] }
 
-abbrev next : World → World
+abbrev pub next : World → World
 next w = record { rows = []; counters = (0, next_id w 0 + 1) ∷ [] }
 
-abbrev toy : Meaning
+abbrev pub toy : Meaning
 toy = record {
   cells = cell_at [];
   empty = empty_world;
@@ -34,11 +33,11 @@ toy = record {
   reach = λ w t k. true;
 }
 
-abbrev taking : Task
+abbrev pub taking : Task
 taking = task.Change [] reply_form.Empty
 
 -- an entry by one, told this id
-abbrev entry : ℕ → ℕ → Entry
+abbrev pub entry : ℕ → ℕ → Entry
 entry by id = record { by = by; task = taking; reply = record { status = id; content = content.Nothing; location = None; allow = allow.Nothing; body = [] } }
 
 abbrev three : List Entry
@@ -59,18 +58,9 @@ the_world_before_the_first = refl
 the_world_past_the_last_is_the_last : next_id (world_at toy 10 empty_world three 99) 0 ≡ 4
 the_world_past_the_last_is_the_last = refl
 
-the_entries_of_seven : entries_by (λ e. e.by) (7 ∷ []) three ≡ entry 7 1 ∷ entry 7 3 ∷ []
-the_entries_of_seven = refl
-
-the_entries_of_seven_and_eight : entries_by (λ e. e.by) (8 ∷ 7 ∷ []) three ≡ three
-the_entries_of_seven_and_eight = refl
-
-the_entries_of_nobody : entries_by (λ e. e.by) [] three ≡ []
-the_entries_of_nobody = refl
-
 -- ---- logs
 
-abbrev noted : ℕ → Noted
+abbrev pub noted : ℕ → Noted
 noted n = record { number = n; keys = cell_key.Counter 0 ∷ [] }
 
 abbrev all : List Noted
@@ -103,7 +93,7 @@ not_less less = omega arith
 apart : false ≡ true → ⊥
 apart e = cc e
 
-abbrev log : Log
+abbrev pub log : Log
 log = record { window = 2; kept = noted 2 ∷ noted 3 ∷ []; dropped = Some 1 }
 
 a_log_of_two : Keeps log all
@@ -117,13 +107,13 @@ a_log_of_two = record {
 }
 
 -- a snapshot from before the entry that was dropped is too old
-too_old : Judges log (record { keys = []; parts = [] }) 0 (check.Aged 1)
+too_old : LogSays log (record { keys = []; parts = [] }) 0 (check.Aged 1)
 too_old = (refl, lit_zero_one)
 
 -- nothing that was read was written
-nothing_read_conflicts_with_nothing : Judges log (record { keys = []; parts = [] }) 1 check.Clear
+nothing_read_conflicts_with_nothing : LogSays log (record { keys = []; parts = [] }) 1 check.Clear
 nothing_read_conflicts_with_nothing = (λ less. not_less less, ((λ less meets. apart meets.1), ((λ less meets. apart meets.1), tt)))
 
 -- entry 2 is the first after 1 that wrote what was read
-the_first_conflict : Judges log (record { keys = cell_key.Counter 0 ∷ []; parts = [] }) 1 (check.Conflict 2)
+the_first_conflict : LogSays log (record { keys = cell_key.Counter 0 ∷ []; parts = [] }) 1 (check.Conflict 2)
 the_first_conflict = (λ less. not_less less, inl (refl, lit_one_two, (cell_key.Counter 0, refl, inl refl)))

@@ -1,1 +1,6 @@
+mod Aged
+mod Agreement
+mod CommitExamples
+mod CommitLaws
 mod Examples
+mod LogLaws

@@ -1,6 +1,5 @@
--- Histories: the worlds in them, what their entries write, conflicts and passes (all of this project).
+-- Histories: the worlds in them, what their entries write, and conflicts (all of this project).
 use Rattle.std.specs.Prelude.{◌≡◌, ◌≢◌, ℕ, ◌+◌, ◌-◌, ◌<◌, ◌≤◌, ◌==◌, ◌⊎◌, if◌then◌else◌, IsTrue, List, [], ◌∷◌, take, length, Some, None, Option, MatchOption}
-use Rattle.ident_rules.specs.Owned.{entries_by}
 use Rattle.world_cells.specs.declared.keys.CellKey.{CellKey}
 use Rattle.world_cells.specs.declared.sets.ReadSet.{ReadSet}
 use Rattle.task_forms.specs.declared.tasks.Entry.{Entry}
@@ -25,10 +24,6 @@ Writes m first w entries n k = m.cells (world_at m first w entries (n - 1)) k �
 -- the number of an entry
 abbrev pub IsNumber : ℕ → List Entry → ℕ → Type 0
 IsNumber first entries n = (first < n) × (n ≤ first + length entries)
-
--- an entry that writes something
-abbrev pub IsWriting : Meaning → ℕ → World → List Entry → ℕ → Type 0
-IsWriting m first w entries n = IsNumber first entries n × ((k : CellKey) × Writes m first w entries n k)
 
 -- exactly the keys at which two stores differ
 pub record Exactly (keys : List CellKey) (f g : Cells) : Type 0 where
@@ -85,10 +80,3 @@ abbrev pub MayRefuse : Meaning → ℕ → World → List Entry → Task → ℕ
 MayRefuse m first w entries t at window =
     ((n : ℕ) × (at < n) × IsNumber first entries n × ((k : CellKey) × Writes m first w entries n k × IsTrue (m.reach (world_at m first w entries at) t k)))
     ⊎ ((n : ℕ) × IsAged m first w entries at window (Some n))
-
--- ---- passes
-
--- a legal history that was seen, and the entries of it that are one's own
-pub record IsPass (m : Meaning) (w : World) (numbers : List ℕ) (seen mine : List Entry) : Type 0 where
-  pub legal : IsLegal m w seen
-  pub own : mine ≡ entries_by (λ e. e.by) numbers seen

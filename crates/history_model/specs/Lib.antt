@@ -1,7 +1,5 @@
-pub mod Agreement
-pub mod CommitLaws
+pub mod Commits
 pub mod Histories
 pub mod Laws
-pub mod LogLaws
 pub mod Standing
 pub mod Trials

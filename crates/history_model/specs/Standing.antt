@@ -58,10 +58,11 @@ IsFirstMeeting reads since (x ∷ noted) n =
     ((x.number ≡ n) × (since < n) × Meets reads x.keys)
     ⊎ ((since < x.number → ¬ Meets reads x.keys) × IsFirstMeeting reads since noted n)
 
-abbrev pub Judges : Log → ReadSet → ℕ → Check → Type 0
-Judges log reads since check.Clear = ¬ IsAbove since log.dropped × NoneMeets reads since log.kept
-Judges log reads since (check.Conflict n) = ¬ IsAbove since log.dropped × IsFirstMeeting reads since log.kept n
-Judges log reads since (check.Aged n) = (log.dropped ≡ Some n) × (since < n)
+-- what a log answers, by what it keeps and what it dropped last
+abbrev pub LogSays : Log → ReadSet → ℕ → Check → Type 0
+LogSays log reads since check.Clear = ¬ IsAbove since log.dropped × NoneMeets reads since log.kept
+LogSays log reads since (check.Conflict n) = ¬ IsAbove since log.dropped × IsFirstMeeting reads since log.kept n
+LogSays log reads since (check.Aged n) = (log.dropped ≡ Some n) × (since < n)
 
 -- what an answer of the log means of the history: the first entry that wrote what was read, unless the snapshot is too old
 abbrev pub IsSaid : Meaning → ℕ → World → List Entry → ℕ → ReadSet → ℕ → Check → Type 0

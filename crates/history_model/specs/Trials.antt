@@ -13,12 +13,6 @@ use Rattle.task_forms.specs.Meaning.{Meaning}
 abbrev pub IsTried : Meaning → Cells → Task → ReadSet → List Written → Reply → Type 0
 IsTried m store t reads writes reply = (w : World) → m.valid w → AgreeOn reads (m.cells w) store → (reply ≡ m.answer w t) × Leads (m.cells w) writes (m.cells (m.effect w t))
 
--- a store has the cells of a valid world
-pub record IsStored (m : Meaning) (store : Cells) : Type 0 where
-  pub world : World
-  pub valid : m.valid world
-  pub same : (k : CellKey) → m.cells world k ≡ store k
-
 -- each key that was read may be looked at, in each valid world with the cells of a store
 abbrev pub StaysInReach : Meaning → Cells → Task → ReadSet → Type 0
 StaysInReach m store t reads = (w : World) → m.valid w → ((k : CellKey) → m.cells w k ≡ store k) → (k : CellKey) → IsTrue (covers reads k) → IsTrue (m.reach w t k)

@@ -1,3 +1,6 @@
+/// How many writing entries the stores of the program remember.
+pub const LOG_WINDOW: usize = 1_024;
+
 /// What a log of the last entries says of the reads of a trial.
 #[derive(Clone, Copy, Debug, PartialEq, Eq)]
 pub enum Check {

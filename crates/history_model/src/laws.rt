@@ -1,6 +1,6 @@
 //! Laws of histories, for every lawful meaning of tasks. Each is the contract of a function that does nothing.
 
-ghost use Rattle.history_model.specs.Laws.{LogTellsHistory, ConflictIsOne, TrialStaysRight, CommitExtendsHistory, SettleExtendsHistory};
+ghost use Rattle.history_model.specs.Laws.{AgedIsOne, LogTellsHistory, ConflictIsOne, TrialStaysRight, CommitExtendsHistory, SettleExtendsHistory};
 
 use crate::Means;
 
@@ -13,6 +13,11 @@ pub fn log_tells_history<S: Means>()
 /// A history has one conflict with a read set after a number, or none.
 pub fn conflict_is_one<S: Means>()
     ensures { (k : S.Kind) → ConflictIsOne (S.meaning k) }
+{}
+
+/// What is too old for a log of some length is one entry, or none.
+pub fn aged_is_one<S: Means>()
+    ensures { (k : S.Kind) → AgedIsOne (S.meaning k) }
 {}
 
 /// A trial on a snapshot whose reads no later entry wrote is right in the last world of the history too.

@@ -6,9 +6,9 @@ mod checks;
 mod laws;
 mod means;
 
-pub use checks::Check;
+pub use checks::{Check, LOG_WINDOW};
 pub use laws::{
-    commit_extends_history, conflict_is_one, log_tells_history, settle_extends_history,
+    aged_is_one, commit_extends_history, conflict_is_one, log_tells_history, settle_extends_history,
     trial_stays_right,
 };
 pub use means::Means;

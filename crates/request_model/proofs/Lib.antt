@@ -9,6 +9,7 @@ mod SchemaExamples
 mod DocumentExamples
 mod ListExamples
 mod OperationExamples
+mod PinExamples
 mod PlanExamples
 mod LimitExamples
 pub mod Inversions

@@ -7,6 +7,7 @@ use Rattle.resource_schema.specs.declared.values.AttrValue.TheVariants as value
 use Rattle.world_cells.specs.declared.rows.Link.TheVariants.{One, Many}
 use Rattle.world_cells.specs.declared.keys.CellKey.TheVariants as cell_key
 use Rattle.world_cells.specs.declared.cells.Cell.TheVariants as cell
+use Rattle.task_forms.specs.Queries.{no_query}
 use Rattle.task_forms.specs.declared.operations.Named.TheVariants as named
 use Rattle.task_forms.specs.declared.operations.Where.TheVariants as stands
 use Rattle.task_forms.specs.declared.operations.Operation.{Operation}
@@ -27,7 +28,7 @@ use Rattle.store_model.specs.Answer.{answer, effect}
 use Rattle.world_cells.specs.World.{World, empty_world, cell_at}
 use Rattle.store_model.specs.Run.{Ran, run}
 use Rattle.error_objects.specs.declared.refusals.Refusal.{Refusal}
-use Rattle.resource_schema.specs.Kinds.{notes}
+use Rattle.resource_schema.specs.Kinds.{to_one, to_many, notes}
 
 abbrev pub blog : Schema
 blog =
@@ -35,9 +36,9 @@ blog =
       name = codes "articles";
       client_ids = false;
       attributes = record { name = codes "draft"; form = form.Bool; nullable = true; default = None } ∷ record { name = codes "title"; form = form.Text; nullable = false; default = None } ∷ record { name = codes "views"; form = form.Int; nullable = false; default = Some (value.Int (pos 0)) } ∷ [];
-      relationships = record { name = codes "author"; many = false; target = 2 } ∷ record { name = codes "comments"; many = true; target = 1 } ∷ [];
+      relationships = to_one (codes "author") 2 ∷ to_many (codes "comments") 1 ∷ [];
     }
-    ∷ record { name = codes "comments"; client_ids = false; attributes = record { name = codes "text"; form = form.Text; nullable = false; default = None } ∷ []; relationships = record { name = codes "author"; many = false; target = 2 } ∷ [] }
+    ∷ record { name = codes "comments"; client_ids = false; attributes = record { name = codes "text"; form = form.Text; nullable = false; default = None } ∷ []; relationships = to_one (codes "author") 2 ∷ [] }
     ∷ record { name = codes "people"; client_ids = true; attributes = record { name = codes "name"; form = form.Text; nullable = false; default = None } ∷ []; relationships = [] }
     ∷ []
 
@@ -91,7 +92,7 @@ abbrev pub no_cursors : ℕ → Page
 no_cursors n = record { size = n; after = None; before = None }
 
 abbrev pub page_of_notes : List (List ℕ × List ℕ) → Page → Task
-page_of_notes pairs page = task.Fetch (record { target = target.Collection 0; query = record { pairs = pairs; include = None; fields = []; sort = []; page = page } })
+page_of_notes pairs page = task.Fetch (record { target = target.Collection 0; query = record no_query { pairs = pairs; page = page } })
 
 abbrev pub three_notes : World
 three_notes = effect notes empty_world (task.Change (note ∷ note ∷ note ∷ []) reply_form.Results)
@@ -109,7 +110,7 @@ empty_page : answer notes empty_world (page_of_notes [] (no_cursors 50)) ≡ rec
 unfolding digits escape_byte
 empty_page = refl
 
-no_note : (answer notes empty_world (task.Fetch (record { target = target.Resource (record { kind = 0; id = codes "7" }); query = record { pairs = []; include = None; fields = []; sort = []; page = no_cursors 50 } }))).body
+no_note : (answer notes empty_world (task.Fetch (record { target = target.Resource (record { kind = 0; id = codes "7" }); query = no_query }))).body
     ≡ codes "{\"errors\":[{\"code\":\"not-found\",\"status\":\"404\",\"title\":\"Not found\"}]}"
 unfolding digits escape_byte
 no_note = refl
@@ -118,7 +119,7 @@ abbrev pub after_list : World
 after_list = effect blog (world_of with_comment) (task.Change (list_with (codes "1")) reply_form.Results)
 
 -- sparse fields do not change what is included
-sparse : (answer blog after_list (task.Fetch (record { target = target.Resource (record { kind = 0; id = codes "1" }); query = record { pairs = []; include = Some (record { rels = 0 ∷ [] } ∷ []); fields = (0, codes "title" ∷ []) ∷ []; sort = []; page = no_cursors 50 } }))).body
+sparse : (answer blog after_list (task.Fetch (record { target = target.Resource (record { kind = 0; id = codes "1" }); query = record no_query { include = Some (record { rels = 0 ∷ [] } ∷ []); fields = (0, codes "title" ∷ []) ∷ [] } }))).body
     ≡ codes "{\"data\":{\"attributes\":{\"title\":\"T\"},\"id\":\"1\",\"links\":{\"self\":\"/articles/1\"},\"type\":\"articles\"},\"included\":[{\"attributes\":{\"name\":\"Ann\"},\"id\":\"1\",\"links\":{\"self\":\"/people/1\"},\"type\":\"people\"}]}"
 unfolding digits escape_byte
 sparse = refl

@@ -3,12 +3,14 @@ use Rattle.std.specs.Prelude.{◌≡◌, ℕ, List, [], ◌∷◌, true, false, 
 use Rattle.std.proofs.Common.{refl, arith}
 use Rattle.std.specs.Fmt.{digits}
 use Rattle.std.specs.List.{IsDistinct}
+use Rattle.resource_schema.specs.Kinds.{to_one, to_many}
 use Rattle.resource_schema.specs.declared.kinds.Relationship.{Relationship}
 use Rattle.resource_schema.specs.declared.values.AttrValue.TheVariants as value
 use Rattle.resource_schema.specs.declared.targets.Target.TheVariants as target
 use Rattle.world_cells.specs.declared.rows.Link.{Link}
 use Rattle.world_cells.specs.declared.rows.Link.TheVariants.{One, Many}
 use Rattle.world_cells.specs.World.{World, empty_world, row_at}
+use Rattle.task_forms.specs.Queries.{no_query}
 use Rattle.task_forms.specs.declared.operations.Named.TheVariants as named
 use Rattle.task_forms.specs.declared.operations.Where.TheVariants as stands
 use Rattle.task_forms.specs.declared.operations.Who.{Who}
@@ -70,12 +72,12 @@ shown_as_created = refl
 
 -- ---- what a fetch is answered by
 
-fetched_contents : map (λ t. (answer blog blog_with_people (task.Fetch (record { target = t; query = record { pairs = []; include = None; fields = []; sort = []; page = no_cursors 50 } }))).content) (target.Collection 0 ∷ target.Resource (key_at 0 (codes "1")) ∷ target.Related (key_at 0 (codes "1")) 0 ∷ target.Related (key_at 0 (codes "1")) 1 ∷ target.Linkage (key_at 0 (codes "1")) 1 ∷ []) ≡ content.Page ∷ content.Plain ∷ content.Plain ∷ content.Page ∷ content.Plain ∷ []
+fetched_contents : map (λ t. (answer blog blog_with_people (task.Fetch (record { target = t; query = no_query }))).content) (target.Collection 0 ∷ target.Resource (key_at 0 (codes "1")) ∷ target.Related (key_at 0 (codes "1")) 0 ∷ target.Related (key_at 0 (codes "1")) 1 ∷ target.Linkage (key_at 0 (codes "1")) 1 ∷ []) ≡ content.Page ∷ content.Plain ∷ content.Plain ∷ content.Page ∷ content.Plain ∷ []
 unfolding digits escape_byte
 fetched_contents = refl
 
 -- the links and the linkage of a resource that is not there, too
-not_found : map (λ t. answer blog blog_with_people (task.Fetch (record { target = t; query = record { pairs = []; include = None; fields = []; sort = []; page = no_cursors 50 } }))) (target.Resource (key_at 0 (codes "7")) ∷ target.Related (key_at 0 (codes "7")) 1 ∷ target.Linkage (key_at 0 (codes "7")) 0 ∷ []) ≡ map {A = ℕ} (λ n. refused_with 404 (codes "{\"errors\":[{\"code\":\"not-found\",\"status\":\"404\",\"title\":\"Not found\"}]}")) (0 ∷ 1 ∷ 2 ∷ [])
+not_found : map (λ t. answer blog blog_with_people (task.Fetch (record { target = t; query = no_query }))) (target.Resource (key_at 0 (codes "7")) ∷ target.Related (key_at 0 (codes "7")) 1 ∷ target.Linkage (key_at 0 (codes "7")) 0 ∷ []) ≡ map {A = ℕ} (λ n. refused_with 404 (codes "{\"errors\":[{\"code\":\"not-found\",\"status\":\"404\",\"title\":\"Not found\"}]}")) (0 ∷ 1 ∷ 2 ∷ [])
 unfolding digits escape_byte
 not_found = refl
 
@@ -209,10 +211,10 @@ blamed = refl
 -- ---- links of valid rows
 
 abbrev one : Relationship
-one = record { name = codes "author"; many = false; target = 2 }
+one = to_one (codes "author") 2
 
 abbrev many : Relationship
-many = record { name = codes "comments"; many = true; target = 1 }
+many = to_many (codes "comments") 1
 
 links_by_relationship : IsLinkOf one (One None) × IsLinkOf one (One (Some (codes "ann"))) × (¬ IsLinkOf one (Many [])) × IsLinkOf many (Many []) × (¬ IsLinkOf many (One None))
 unfolding IsDistinct

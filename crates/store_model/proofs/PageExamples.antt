@@ -9,6 +9,7 @@ use Rattle.resource_schema.specs.declared.values.AttrValue.TheVariants as value
 use Rattle.resource_schema.specs.declared.values.Place.{Place}
 use Rattle.resource_schema.specs.declared.targets.Target.TheVariants as target
 use Rattle.world_cells.specs.World.{World, empty_world}
+use Rattle.task_forms.specs.Queries.{no_query}
 use Rattle.task_forms.specs.declared.operations.Operation.TheVariants.{Create}
 use Rattle.task_forms.specs.declared.queries.Page.{Page}
 use Rattle.task_forms.specs.declared.queries.SortKey.{SortKey}
@@ -126,6 +127,39 @@ no_sides : (sides (titled_page false 2 (titled_place (codes "c") (codes "1")) No
 unfolding digits escape_byte
 no_sides = (refl, refl)
 
+abbrev range_page : ℕ → Option Place → Option Place → List (List ℕ) × Bool × Bool × Bool
+range_page size after before = let page = titled_page false size after before in (ids_of_rows page, page.before, page.after, page.truncated)
+
+-- both cursors: the first ones between them, cut short where more stand there. The order is 2, 1, 3.
+range_of_one : range_page 1 (titled_place (codes "a") (codes "2")) (titled_place (codes "b") (codes "3")) ≡ (codes "1" ∷ [], true, true, false)
+unfolding digits escape_byte
+range_of_one = refl
+
+-- the cursors themselves are outside
+range_of_none : range_page 1 (titled_place (codes "a") (codes "2")) (titled_place (codes "b") (codes "1")) ≡ ([], false, false, false)
+unfolding digits escape_byte
+range_of_none = refl
+
+-- two between them: a page of one is cut short, and one of two is not
+range_cut_short : (range_page 1 (titled_place (codes "a") (codes "1")) (titled_place (codes "b") (codes "3")) ≡ (codes "2" ∷ [], false, true, true)) × (range_page 2 (titled_place (codes "a") (codes "1")) (titled_place (codes "b") (codes "3")) ≡ (codes "2" ∷ codes "1" ∷ [], false, true, false))
+unfolding digits escape_byte
+range_cut_short = (refl, refl)
+
+-- up to the last one and past it
+range_to_the_end : (range_page 2 (titled_place (codes "a") (codes "2")) (titled_place (codes "b") (codes "4")) ≡ (codes "1" ∷ codes "3" ∷ [], true, false, false)) × (range_page 1 (titled_place (codes "a") (codes "2")) (titled_place (codes "b") (codes "4")) ≡ (codes "1" ∷ [], true, true, true))
+unfolding digits escape_byte
+range_to_the_end = (refl, refl)
+
+-- cursors the wrong way round, and twice the same
+range_reversed : (range_page 2 (titled_place (codes "b") (codes "3")) (titled_place (codes "a") (codes "2")) ≡ ([], false, false, false)) × (range_page 2 (titled_place (codes "b") (codes "1")) (titled_place (codes "b") (codes "1")) ≡ ([], false, false, false))
+unfolding digits escape_byte
+range_reversed = (refl, refl)
+
+-- one cursor is no range, whatever is left out
+no_range : (range_page 1 (titled_place (codes "a") (codes "1")) None ≡ (codes "2" ∷ [], false, true, false)) × (range_page 1 None (titled_place (codes "b") (codes "3")) ≡ (codes "1" ∷ [], true, true, false)) × (range_page 1 None None ≡ (codes "2" ∷ [], false, true, false))
+unfolding digits escape_byte
+no_range = (refl, refl, refl)
+
 -- the rows of one type, by id
 rows_by_type : (map (λ row. row.key) (rows_of blog_with_people 1) ≡ key_at 1 (codes "1") ∷ key_at 1 (codes "2") ∷ []) × (map (λ row. row.key) (rows_of blog_with_people 2) ≡ key_at 2 (codes "ann") ∷ key_at 2 (codes "bob") ∷ [])
 unfolding digits escape_byte
@@ -137,12 +171,12 @@ unfolding digits escape_byte
 rows_there = refl
 
 -- a page of views in the middle: the links have the cursors of its first and last, and the request's other pairs
-views_page : (answer blog counted (task.Fetch (record { target = target.Collection 0; query = record { pairs = (codes "sort", codes "views") ∷ (codes "fields[articles]", []) ∷ (codes "page[size]", codes "2") ∷ []; include = None; fields = (0, []) ∷ []; sort = by_attribute 2 false; page = record { size = 2; after = Some (record { values = value.Int (negsuc 4) ∷ []; id = codes "2" }); before = None } } }))).body ≡ codes "{\"data\":[{\"id\":\"4\",\"links\":{\"self\":\"/articles/4\"},\"type\":\"articles\"},{\"id\":\"3\",\"links\":{\"self\":\"/articles/3\"},\"type\":\"articles\"}],\"links\":{\"next\":\"/articles?fields%5Barticles%5D=&page%5Bafter%5D=WzMsIjMiXQ&page%5Bsize%5D=2&sort=views\",\"prev\":\"/articles?fields%5Barticles%5D=&page%5Bbefore%5D=Wy01LCI0Il0&page%5Bsize%5D=2&sort=views\"}}"
+views_page : (answer blog counted (task.Fetch (record { target = target.Collection 0; query = record no_query { pairs = (codes "sort", codes "views") ∷ (codes "fields[articles]", []) ∷ (codes "page[size]", codes "2") ∷ []; fields = (0, []) ∷ []; sort = by_attribute 2 false; page = record { size = 2; after = Some (record { values = value.Int (negsuc 4) ∷ []; id = codes "2" }); before = None } } }))).body ≡ codes "{\"data\":[{\"id\":\"4\",\"links\":{\"self\":\"/articles/4\"},\"type\":\"articles\"},{\"id\":\"3\",\"links\":{\"self\":\"/articles/3\"},\"type\":\"articles\"}],\"links\":{\"next\":\"/articles?fields%5Barticles%5D=&page%5Bafter%5D=WzMsIjMiXQ&page%5Bsize%5D=2&sort=views\",\"prev\":\"/articles?fields%5Barticles%5D=&page%5Bbefore%5D=Wy01LCI0Il0&page%5Bsize%5D=2&sort=views\"}}"
 unfolding digits escape_byte form_urlencoded_on_literals base64_on_literals
 views_page = refl
 
 -- a page of a to-many relationship has links of its own path
-related_page : (answer blog blog_with_people (task.Fetch (record { target = target.Related (key_at 0 (codes "1")) 1; query = record { pairs = (codes "page[size]", codes "1") ∷ []; include = None; fields = (1, []) ∷ []; sort = []; page = no_cursors 1 } }))).body ≡ codes "{\"data\":[{\"id\":\"1\",\"links\":{\"self\":\"/comments/1\"},\"type\":\"comments\"}],\"links\":{\"next\":\"/articles/1/comments?page%5Bafter%5D=WyIxIl0&page%5Bsize%5D=1\",\"prev\":null}}"
+related_page : (answer blog blog_with_people (task.Fetch (record { target = target.Related (key_at 0 (codes "1")) 1; query = record no_query { pairs = (codes "page[size]", codes "1") ∷ []; fields = (1, []) ∷ []; page = no_cursors 1 } }))).body ≡ codes "{\"data\":[{\"id\":\"1\",\"links\":{\"self\":\"/comments/1\"},\"type\":\"comments\"}],\"links\":{\"next\":\"/articles/1/comments?page%5Bafter%5D=WyIxIl0&page%5Bsize%5D=1\",\"prev\":null}}"
 unfolding digits escape_byte form_urlencoded_on_literals base64_on_literals
 related_page = refl
 

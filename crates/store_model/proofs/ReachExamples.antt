@@ -10,6 +10,7 @@ use Rattle.resource_schema.specs.Kinds.{notes}
 use Rattle.world_cells.specs.declared.keys.CellKey.{CellKey}
 use Rattle.world_cells.specs.declared.keys.CellKey.TheVariants as cell_key
 use Rattle.world_cells.specs.World.{World, empty_world}
+use Rattle.task_forms.specs.Queries.{no_query}
 use Rattle.task_forms.specs.declared.operations.Named.TheVariants as named
 use Rattle.task_forms.specs.declared.operations.Where.TheVariants as stands
 use Rattle.task_forms.specs.declared.operations.Operation.{Operation}
@@ -21,7 +22,7 @@ use Rattle.task_forms.specs.declared.tasks.Task.{Task}
 use Rattle.task_forms.specs.declared.tasks.Task.TheVariants as task
 use Rattle.json.specs.Print.{escape_byte}
 use Rattle.store_model.specs.Answer.{effect}
-use Rattle.store_model.specs.Reach.{reach}
+use Rattle.store_model.specs.Reach.{of_kind, listed, reach_page, reach_walk, reach}
 use Rattle.store_model.proofs.Examples.{blog, no_cursors, page_of_notes, three_notes}
 use Rattle.store_model.proofs.Rows.{key_at, named_by, member_of, one_member_of, path_of, person, blog_with_people, drafts, by_attribute, list_of, with_lid, after_id, remove_note}
 
@@ -108,7 +109,7 @@ no_operation = refl
 -- ---- fetches of one row and of its links
 
 abbrev fetch : Target → Option (List Path) → Task
-fetch t include = task.Fetch (record { target = t; query = record { pairs = []; include = include; fields = []; sort = []; page = no_cursors 50 } })
+fetch t include = task.Fetch (record { target = t; query = record no_query { include = include } })
 
 abbrev fetch_looks : Target → Option (List Path) → List CellKey → List Bool
 fetch_looks t include keys = map (reach blog blog_with_people (fetch t include)) keys
@@ -183,8 +184,13 @@ empty_pages : (notes_looked three_notes (at_page 2 (Some (after_id (codes "4")))
 unfolding digits escape_byte
 empty_pages = (refl, refl, refl)
 
+-- a range looks up to the notes on both sides of the page, and where it has none at what would be between the cursors
+range_looks : (notes_looked three_notes (at_page 1 (Some (after_id (codes "1"))) (Some (after_id (codes "4")))) ≡ false ∷ true ∷ true ∷ true ∷ false ∷ false ∷ false ∷ false ∷ []) × (notes_looked three_notes (at_page 1 (Some (after_id (codes "3"))) (Some (after_id (codes "6")))) ≡ false ∷ false ∷ false ∷ false ∷ true ∷ true ∷ false ∷ false ∷ [])
+unfolding digits escape_byte
+range_looks = (refl, refl)
+
 abbrev articles_by : List SortKey → Task
-articles_by sort = task.Fetch (record { target = target.Collection 0; query = record { pairs = []; include = None; fields = []; sort = sort; page = no_cursors 1 } })
+articles_by sort = task.Fetch (record { target = target.Collection 0; query = record no_query { sort = sort; page = no_cursors 1 } })
 
 -- articles 1, 3, 4 and 10, comment 1, a counter and a way back
 abbrev articles_and_more : List CellKey
@@ -200,6 +206,23 @@ unfolding digits escape_byte
 unsorted_looks = refl
 
 -- a collection looks at what is included with its page, not with other rows
-page_included : map (reach blog blog_with_people (task.Fetch (record { target = target.Collection 1; query = record { pairs = []; include = Some (path_of (0 ∷ []) ∷ []); fields = []; sort = []; page = no_cursors 1 } }))) (row 1 (codes "1") ∷ row 1 (codes "2") ∷ row 2 (codes "ann") ∷ row 2 (codes "bob") ∷ row 0 (codes "1") ∷ []) ≡ true ∷ true ∷ true ∷ false ∷ false ∷ []
+page_included : map (reach blog blog_with_people (task.Fetch (record { target = target.Collection 1; query = record no_query { include = Some (path_of (0 ∷ []) ∷ []); page = no_cursors 1 } }))) (row 1 (codes "1") ∷ row 1 (codes "2") ∷ row 2 (codes "ann") ∷ row 2 (codes "bob") ∷ row 0 (codes "1") ∷ []) ≡ true ∷ true ∷ true ∷ false ∷ false ∷ []
 unfolding digits escape_byte
 page_included = refl
+
+-- ---- parts of a fetch
+
+-- a page of listed keys looks at each of them, shown or not
+listed_looks : map (reach_page (listed (key_at 1 (codes "1") ∷ key_at 1 (codes "2") ∷ [])) [] (no_cursors 1) blog_with_people) (row 1 (codes "1") ∷ row 1 (codes "2") ∷ row 1 (codes "3") ∷ cell_key.Counter 1 ∷ []) ≡ true ∷ true ∷ false ∷ false ∷ []
+unfolding digits escape_byte
+listed_looks = refl
+
+-- a page of a type looks at what the page of its collection does
+kind_looks : map (reach_page (of_kind 1) [] (no_cursors 1) blog_with_people) (row 1 (codes "1") ∷ row 1 (codes "2") ∷ row 1 (codes "3") ∷ row 2 (codes "1") ∷ []) ≡ true ∷ true ∷ false ∷ false ∷ []
+unfolding digits escape_byte
+kind_looks = refl
+
+-- a walk looks at where it begins and at what it finds
+walk_looks : map (reach_walk blog (key_at 0 (codes "1") ∷ []) (path_of (1 ∷ 0 ∷ []) ∷ []) blog_with_people) around ≡ map (reach blog blog_with_people (fetch (target.Resource (key_at 0 (codes "1"))) (Some (path_of (1 ∷ 0 ∷ []) ∷ [])))) around
+unfolding digits escape_byte
+walk_looks = refl

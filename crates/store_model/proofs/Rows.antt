@@ -13,6 +13,7 @@ use Rattle.world_cells.specs.declared.keys.CellKey.TheVariants as cell_key
 use Rattle.world_cells.specs.declared.cells.Cell.TheVariants as cell
 use Rattle.world_cells.specs.declared.spans.Span.TheVariants as span
 use Rattle.world_cells.specs.declared.spans.Edge.TheVariants as edge
+use Rattle.task_forms.specs.Queries.{no_query}
 use Rattle.task_forms.specs.declared.operations.Named.TheVariants as named
 use Rattle.task_forms.specs.declared.operations.Where.TheVariants as stands
 use Rattle.task_forms.specs.declared.operations.Who.{Who}
@@ -36,8 +37,8 @@ use Rattle.store_model.specs.Pages.{page_of, rows_of}
 use Rattle.world_cells.specs.Reads.{covers}
 use Rattle.store_model.specs.Reach.{reach}
 use Rattle.store_model.specs.Answer.{answer, effect, empty_reply}
-use Rattle.store_model.proofs.Examples.{blog, no_cursors, page_of_notes, three_notes}
-use Rattle.resource_schema.specs.Kinds.{notes}
+use Rattle.store_model.proofs.Examples.{blog, no_cursors, note, page_of_notes, three_notes}
+use Rattle.resource_schema.specs.Kinds.{to_one, to_many, notes}
 use Rattle.http_messages.specs.declared.messages.Reply.{Reply}
 
 -- ---- short forms
@@ -83,31 +84,31 @@ blog_with_people = effect blog empty_world (task.Change (
     ∷ []) reply_form.Results)
 
 -- one object for ann, though two paths reach her
-included_rows : (answer blog blog_with_people (task.Fetch (record { target = target.Resource (key_at 0 (codes "1")); query = record { pairs = []; include = Some (path_of (0 ∷ []) ∷ path_of (1 ∷ 0 ∷ []) ∷ []); fields = []; sort = []; page = no_cursors 50 } }))).body ≡ codes "{\"data\":{\"attributes\":{\"draft\":null,\"title\":\"T\",\"views\":0},\"id\":\"1\",\"links\":{\"self\":\"/articles/1\"},\"relationships\":{\"author\":{\"data\":{\"id\":\"ann\",\"type\":\"people\"},\"links\":{\"related\":\"/articles/1/author\",\"self\":\"/articles/1/relationships/author\"}},\"comments\":{\"data\":[{\"id\":\"1\",\"type\":\"comments\"},{\"id\":\"2\",\"type\":\"comments\"}],\"links\":{\"related\":\"/articles/1/comments\",\"self\":\"/articles/1/relationships/comments\"}}},\"type\":\"articles\"},\"included\":[{\"attributes\":{\"text\":\"c1\"},\"id\":\"1\",\"links\":{\"self\":\"/comments/1\"},\"relationships\":{\"author\":{\"data\":{\"id\":\"ann\",\"type\":\"people\"},\"links\":{\"related\":\"/comments/1/author\",\"self\":\"/comments/1/relationships/author\"}}},\"type\":\"comments\"},{\"attributes\":{\"text\":\"c2\"},\"id\":\"2\",\"links\":{\"self\":\"/comments/2\"},\"relationships\":{\"author\":{\"data\":{\"id\":\"bob\",\"type\":\"people\"},\"links\":{\"related\":\"/comments/2/author\",\"self\":\"/comments/2/relationships/author\"}}},\"type\":\"comments\"},{\"attributes\":{\"name\":\"Ann\"},\"id\":\"ann\",\"links\":{\"self\":\"/people/ann\"},\"type\":\"people\"},{\"attributes\":{\"name\":\"Bob\"},\"id\":\"bob\",\"links\":{\"self\":\"/people/bob\"},\"type\":\"people\"}]}"
+included_rows : (answer blog blog_with_people (task.Fetch (record { target = target.Resource (key_at 0 (codes "1")); query = record no_query { include = Some (path_of (0 ∷ []) ∷ path_of (1 ∷ 0 ∷ []) ∷ []) } }))).body ≡ codes "{\"data\":{\"attributes\":{\"draft\":null,\"title\":\"T\",\"views\":0},\"id\":\"1\",\"links\":{\"self\":\"/articles/1\"},\"relationships\":{\"author\":{\"data\":{\"id\":\"ann\",\"type\":\"people\"},\"links\":{\"related\":\"/articles/1/author\",\"self\":\"/articles/1/relationships/author\"}},\"comments\":{\"data\":[{\"id\":\"1\",\"type\":\"comments\"},{\"id\":\"2\",\"type\":\"comments\"}],\"links\":{\"related\":\"/articles/1/comments\",\"self\":\"/articles/1/relationships/comments\"}}},\"type\":\"articles\"},\"included\":[{\"attributes\":{\"text\":\"c1\"},\"id\":\"1\",\"links\":{\"self\":\"/comments/1\"},\"relationships\":{\"author\":{\"data\":{\"id\":\"ann\",\"type\":\"people\"},\"links\":{\"related\":\"/comments/1/author\",\"self\":\"/comments/1/relationships/author\"}}},\"type\":\"comments\"},{\"attributes\":{\"text\":\"c2\"},\"id\":\"2\",\"links\":{\"self\":\"/comments/2\"},\"relationships\":{\"author\":{\"data\":{\"id\":\"bob\",\"type\":\"people\"},\"links\":{\"related\":\"/comments/2/author\",\"self\":\"/comments/2/relationships/author\"}}},\"type\":\"comments\"},{\"attributes\":{\"name\":\"Ann\"},\"id\":\"ann\",\"links\":{\"self\":\"/people/ann\"},\"type\":\"people\"},{\"attributes\":{\"name\":\"Bob\"},\"id\":\"bob\",\"links\":{\"self\":\"/people/bob\"},\"type\":\"people\"}]}"
 unfolding digits escape_byte
 included_rows = refl
 
 -- an empty include is given, and reaches nothing
-included_of_nothing : (answer blog blog_with_people (task.Fetch (record { target = target.Resource (key_at 0 (codes "1")); query = record { pairs = []; include = Some ([]); fields = []; sort = []; page = no_cursors 50 } }))).body ≡ codes "{\"data\":{\"attributes\":{\"draft\":null,\"title\":\"T\",\"views\":0},\"id\":\"1\",\"links\":{\"self\":\"/articles/1\"},\"relationships\":{\"author\":{\"data\":{\"id\":\"ann\",\"type\":\"people\"},\"links\":{\"related\":\"/articles/1/author\",\"self\":\"/articles/1/relationships/author\"}},\"comments\":{\"data\":[{\"id\":\"1\",\"type\":\"comments\"},{\"id\":\"2\",\"type\":\"comments\"}],\"links\":{\"related\":\"/articles/1/comments\",\"self\":\"/articles/1/relationships/comments\"}}},\"type\":\"articles\"},\"included\":[]}"
+included_of_nothing : (answer blog blog_with_people (task.Fetch (record { target = target.Resource (key_at 0 (codes "1")); query = record no_query { include = Some ([]) } }))).body ≡ codes "{\"data\":{\"attributes\":{\"draft\":null,\"title\":\"T\",\"views\":0},\"id\":\"1\",\"links\":{\"self\":\"/articles/1\"},\"relationships\":{\"author\":{\"data\":{\"id\":\"ann\",\"type\":\"people\"},\"links\":{\"related\":\"/articles/1/author\",\"self\":\"/articles/1/relationships/author\"}},\"comments\":{\"data\":[{\"id\":\"1\",\"type\":\"comments\"},{\"id\":\"2\",\"type\":\"comments\"}],\"links\":{\"related\":\"/articles/1/comments\",\"self\":\"/articles/1/relationships/comments\"}}},\"type\":\"articles\"},\"included\":[]}"
 unfolding digits escape_byte
 included_of_nothing = refl
 
 -- a page of a to-many relationship
-included_of_page : (answer blog blog_with_people (task.Fetch (record { target = target.Related (key_at 0 (codes "1")) 1; query = record { pairs = []; include = Some (path_of (0 ∷ []) ∷ []); fields = []; sort = []; page = no_cursors 50 } }))).body ≡ codes "{\"data\":[{\"attributes\":{\"text\":\"c1\"},\"id\":\"1\",\"links\":{\"self\":\"/comments/1\"},\"relationships\":{\"author\":{\"data\":{\"id\":\"ann\",\"type\":\"people\"},\"links\":{\"related\":\"/comments/1/author\",\"self\":\"/comments/1/relationships/author\"}}},\"type\":\"comments\"},{\"attributes\":{\"text\":\"c2\"},\"id\":\"2\",\"links\":{\"self\":\"/comments/2\"},\"relationships\":{\"author\":{\"data\":{\"id\":\"bob\",\"type\":\"people\"},\"links\":{\"related\":\"/comments/2/author\",\"self\":\"/comments/2/relationships/author\"}}},\"type\":\"comments\"}],\"included\":[{\"attributes\":{\"name\":\"Ann\"},\"id\":\"ann\",\"links\":{\"self\":\"/people/ann\"},\"type\":\"people\"},{\"attributes\":{\"name\":\"Bob\"},\"id\":\"bob\",\"links\":{\"self\":\"/people/bob\"},\"type\":\"people\"}],\"links\":{\"next\":null,\"prev\":null}}"
+included_of_page : (answer blog blog_with_people (task.Fetch (record { target = target.Related (key_at 0 (codes "1")) 1; query = record no_query { include = Some (path_of (0 ∷ []) ∷ []) } }))).body ≡ codes "{\"data\":[{\"attributes\":{\"text\":\"c1\"},\"id\":\"1\",\"links\":{\"self\":\"/comments/1\"},\"relationships\":{\"author\":{\"data\":{\"id\":\"ann\",\"type\":\"people\"},\"links\":{\"related\":\"/comments/1/author\",\"self\":\"/comments/1/relationships/author\"}}},\"type\":\"comments\"},{\"attributes\":{\"text\":\"c2\"},\"id\":\"2\",\"links\":{\"self\":\"/comments/2\"},\"relationships\":{\"author\":{\"data\":{\"id\":\"bob\",\"type\":\"people\"},\"links\":{\"related\":\"/comments/2/author\",\"self\":\"/comments/2/relationships/author\"}}},\"type\":\"comments\"}],\"included\":[{\"attributes\":{\"name\":\"Ann\"},\"id\":\"ann\",\"links\":{\"self\":\"/people/ann\"},\"type\":\"people\"},{\"attributes\":{\"name\":\"Bob\"},\"id\":\"bob\",\"links\":{\"self\":\"/people/bob\"},\"type\":\"people\"}],\"links\":{\"next\":null,\"prev\":null}}"
 unfolding digits escape_byte
 included_of_page = refl
 
 -- no field is shown, and what the hidden relationship reaches is included
-no_fields : (answer blog blog_with_people (task.Fetch (record { target = target.Resource (key_at 0 (codes "1")); query = record { pairs = []; include = Some (path_of (0 ∷ []) ∷ []); fields = (0, []) ∷ []; sort = []; page = no_cursors 50 } }))).body ≡ codes "{\"data\":{\"id\":\"1\",\"links\":{\"self\":\"/articles/1\"},\"type\":\"articles\"},\"included\":[{\"attributes\":{\"name\":\"Ann\"},\"id\":\"ann\",\"links\":{\"self\":\"/people/ann\"},\"type\":\"people\"}]}"
+no_fields : (answer blog blog_with_people (task.Fetch (record { target = target.Resource (key_at 0 (codes "1")); query = record no_query { include = Some (path_of (0 ∷ []) ∷ []); fields = (0, []) ∷ [] } }))).body ≡ codes "{\"data\":{\"id\":\"1\",\"links\":{\"self\":\"/articles/1\"},\"type\":\"articles\"},\"included\":[{\"attributes\":{\"name\":\"Ann\"},\"id\":\"ann\",\"links\":{\"self\":\"/people/ann\"},\"type\":\"people\"}]}"
 unfolding digits escape_byte
 no_fields = refl
 
 -- each type has its own field set
-two_field_sets : (answer blog blog_with_people (task.Fetch (record { target = target.Resource (key_at 0 (codes "1")); query = record { pairs = []; include = Some (path_of (0 ∷ []) ∷ path_of (1 ∷ []) ∷ []); fields = (0, (codes "title") ∷ []) ∷ (1, (codes "author") ∷ []) ∷ []; sort = []; page = no_cursors 50 } }))).body ≡ codes "{\"data\":{\"attributes\":{\"title\":\"T\"},\"id\":\"1\",\"links\":{\"self\":\"/articles/1\"},\"type\":\"articles\"},\"included\":[{\"id\":\"1\",\"links\":{\"self\":\"/comments/1\"},\"relationships\":{\"author\":{\"data\":{\"id\":\"ann\",\"type\":\"people\"},\"links\":{\"related\":\"/comments/1/author\",\"self\":\"/comments/1/relationships/author\"}}},\"type\":\"comments\"},{\"id\":\"2\",\"links\":{\"self\":\"/comments/2\"},\"relationships\":{\"author\":{\"data\":{\"id\":\"bob\",\"type\":\"people\"},\"links\":{\"related\":\"/comments/2/author\",\"self\":\"/comments/2/relationships/author\"}}},\"type\":\"comments\"},{\"attributes\":{\"name\":\"Ann\"},\"id\":\"ann\",\"links\":{\"self\":\"/people/ann\"},\"type\":\"people\"}]}"
+two_field_sets : (answer blog blog_with_people (task.Fetch (record { target = target.Resource (key_at 0 (codes "1")); query = record no_query { include = Some (path_of (0 ∷ []) ∷ path_of (1 ∷ []) ∷ []); fields = (0, (codes "title") ∷ []) ∷ (1, (codes "author") ∷ []) ∷ [] } }))).body ≡ codes "{\"data\":{\"attributes\":{\"title\":\"T\"},\"id\":\"1\",\"links\":{\"self\":\"/articles/1\"},\"type\":\"articles\"},\"included\":[{\"id\":\"1\",\"links\":{\"self\":\"/comments/1\"},\"relationships\":{\"author\":{\"data\":{\"id\":\"ann\",\"type\":\"people\"},\"links\":{\"related\":\"/comments/1/author\",\"self\":\"/comments/1/relationships/author\"}}},\"type\":\"comments\"},{\"id\":\"2\",\"links\":{\"self\":\"/comments/2\"},\"relationships\":{\"author\":{\"data\":{\"id\":\"bob\",\"type\":\"people\"},\"links\":{\"related\":\"/comments/2/author\",\"self\":\"/comments/2/relationships/author\"}}},\"type\":\"comments\"},{\"attributes\":{\"name\":\"Ann\"},\"id\":\"ann\",\"links\":{\"self\":\"/people/ann\"},\"type\":\"people\"}]}"
 unfolding digits escape_byte
 two_field_sets = refl
 
-linkage_many : (answer blog blog_with_people (task.Fetch (record { target = target.Linkage (key_at 0 (codes "1")) 1; query = record { pairs = []; include = None; fields = []; sort = []; page = no_cursors 50 } }))).body ≡ codes "{\"data\":[{\"id\":\"1\",\"type\":\"comments\"},{\"id\":\"2\",\"type\":\"comments\"}]}"
+linkage_many : (answer blog blog_with_people (task.Fetch (record { target = target.Linkage (key_at 0 (codes "1")) 1; query = no_query }))).body ≡ codes "{\"data\":[{\"id\":\"1\",\"type\":\"comments\"},{\"id\":\"2\",\"type\":\"comments\"}]}"
 unfolding digits escape_byte
 linkage_many = refl
 
@@ -129,7 +130,7 @@ without_author = effect blog by_ann (set_author [])
 abbrev without_ann : World
 without_ann = effect blog without_author remove_ann
 
-author : (answer blog by_ann (task.Fetch (record { target = target.Related (key_at 0 (codes "1")) 0; query = record { pairs = []; include = None; fields = []; sort = []; page = no_cursors 50 } }))).body ≡ codes "{\"data\":{\"attributes\":{\"name\":\"Ann\"},\"id\":\"ann\",\"links\":{\"self\":\"/people/ann\"},\"type\":\"people\"}}"
+author : (answer blog by_ann (task.Fetch (record { target = target.Related (key_at 0 (codes "1")) 0; query = no_query }))).body ≡ codes "{\"data\":{\"attributes\":{\"name\":\"Ann\"},\"id\":\"ann\",\"links\":{\"self\":\"/people/ann\"},\"type\":\"people\"}}"
 unfolding digits escape_byte
 author = refl
 
@@ -147,15 +148,15 @@ unfolding digits escape_byte
 unlinked = refl
 
 -- an empty to-one relationship
-no_author : (answer blog without_author (task.Fetch (record { target = target.Related (key_at 0 (codes "1")) 0; query = record { pairs = []; include = None; fields = []; sort = []; page = no_cursors 50 } }))).body ≡ codes "{\"data\":null}"
+no_author : (answer blog without_author (task.Fetch (record { target = target.Related (key_at 0 (codes "1")) 0; query = no_query }))).body ≡ codes "{\"data\":null}"
 unfolding digits escape_byte
 no_author = refl
 
-no_author_included : (answer blog without_author (task.Fetch (record { target = target.Related (key_at 0 (codes "1")) 0; query = record { pairs = []; include = Some ([]); fields = []; sort = []; page = no_cursors 50 } }))).body ≡ codes "{\"data\":null,\"included\":[]}"
+no_author_included : (answer blog without_author (task.Fetch (record { target = target.Related (key_at 0 (codes "1")) 0; query = record no_query { include = Some ([]) } }))).body ≡ codes "{\"data\":null,\"included\":[]}"
 unfolding digits escape_byte
 no_author_included = refl
 
-no_author_linkage : (answer blog without_author (task.Fetch (record { target = target.Linkage (key_at 0 (codes "1")) 0; query = record { pairs = []; include = None; fields = []; sort = []; page = no_cursors 50 } }))).body ≡ codes "{\"data\":null}"
+no_author_linkage : (answer blog without_author (task.Fetch (record { target = target.Linkage (key_at 0 (codes "1")) 0; query = no_query }))).body ≡ codes "{\"data\":null}"
 unfolding digits escape_byte
 no_author_linkage = refl
 
@@ -191,11 +192,11 @@ dropped_none : (answer blog with_comments (drop_comment (codes "3")) ≡ empty_r
 unfolding digits escape_byte
 dropped_none = (refl, refl)
 
-comments_left : (answer blog with_comments (task.Fetch (record { target = target.Linkage (key_at 0 (codes "1")) 1; query = record { pairs = []; include = None; fields = []; sort = []; page = no_cursors 50 } }))).body ≡ codes "{\"data\":[{\"id\":\"1\",\"type\":\"comments\"},{\"id\":\"2\",\"type\":\"comments\"}]}"
+comments_left : (answer blog with_comments (task.Fetch (record { target = target.Linkage (key_at 0 (codes "1")) 1; query = no_query }))).body ≡ codes "{\"data\":[{\"id\":\"1\",\"type\":\"comments\"},{\"id\":\"2\",\"type\":\"comments\"}]}"
 unfolding digits escape_byte
 comments_left = refl
 
-first_dropped : (answer blog (effect blog with_comments (drop_comment (codes "1"))) (task.Fetch (record { target = target.Linkage (key_at 0 (codes "1")) 1; query = record { pairs = []; include = None; fields = []; sort = []; page = no_cursors 50 } }))).body ≡ codes "{\"data\":[{\"id\":\"2\",\"type\":\"comments\"}]}"
+first_dropped : (answer blog (effect blog with_comments (drop_comment (codes "1"))) (task.Fetch (record { target = target.Linkage (key_at 0 (codes "1")) 1; query = no_query }))).body ≡ codes "{\"data\":[{\"id\":\"2\",\"type\":\"comments\"}]}"
 unfolding digits escape_byte
 first_dropped = refl
 
@@ -222,7 +223,7 @@ member_pointer_in_resource = refl
 -- ---- rows that lead to themselves
 
 abbrev pub nodes : Schema
-nodes = record { name = codes "nodes"; client_ids = true; attributes = []; relationships = record { name = codes "all"; many = true; target = 0 } ∷ record { name = codes "next"; many = false; target = 0 } ∷ [] } ∷ []
+nodes = record { name = codes "nodes"; client_ids = true; attributes = []; relationships = to_many (codes "all") 0 ∷ to_one (codes "next") 0 ∷ [] } ∷ []
 
 -- by its own local id, and by the id that it will have
 abbrev loops : List Operation
@@ -255,7 +256,7 @@ unfolding digits escape_byte
 self_back_removed = refl
 
 -- a primary is not included
-primary_not_included : (answer nodes looped (task.Fetch (record { target = target.Resource (key_at 0 (codes "x")); query = record { pairs = []; include = Some (path_of (1 ∷ []) ∷ []); fields = []; sort = []; page = no_cursors 50 } }))).body ≡ codes "{\"data\":{\"id\":\"x\",\"links\":{\"self\":\"/nodes/x\"},\"relationships\":{\"all\":{\"data\":[],\"links\":{\"related\":\"/nodes/x/all\",\"self\":\"/nodes/x/relationships/all\"}},\"next\":{\"data\":{\"id\":\"x\",\"type\":\"nodes\"},\"links\":{\"related\":\"/nodes/x/next\",\"self\":\"/nodes/x/relationships/next\"}}},\"type\":\"nodes\"},\"included\":[]}"
+primary_not_included : (answer nodes looped (task.Fetch (record { target = target.Resource (key_at 0 (codes "x")); query = record no_query { include = Some (path_of (1 ∷ []) ∷ []) } }))).body ≡ codes "{\"data\":{\"id\":\"x\",\"links\":{\"self\":\"/nodes/x\"},\"relationships\":{\"all\":{\"data\":[],\"links\":{\"related\":\"/nodes/x/all\",\"self\":\"/nodes/x/relationships/all\"}},\"next\":{\"data\":{\"id\":\"x\",\"type\":\"nodes\"},\"links\":{\"related\":\"/nodes/x/next\",\"self\":\"/nodes/x/relationships/next\"}}},\"type\":\"nodes\"},\"included\":[]}"
 unfolding digits escape_byte
 primary_not_included = refl
 
@@ -268,24 +269,53 @@ abbrev pub after_id : List ℕ → Place
 after_id id = record { values = []; id = id }
 
 -- the next page
-second_page : (answer notes three_notes (task.Fetch (record { target = target.Collection 0; query = record { pairs = ((codes "page[after]"), (codes "WyIyIl0")) ∷ ((codes "page[size]"), (codes "2")) ∷ []; include = None; fields = []; sort = []; page = record { size = 2; after = Some (after_id (codes "2")); before = None } } }))).body ≡ codes "{\"data\":[{\"attributes\":{\"text\":\"hello\"},\"id\":\"3\",\"links\":{\"self\":\"/notes/3\"},\"type\":\"notes\"}],\"links\":{\"next\":null,\"prev\":\"/notes?page%5Bbefore%5D=WyIzIl0&page%5Bsize%5D=2\"}}"
+second_page : (answer notes three_notes (task.Fetch (record { target = target.Collection 0; query = record no_query { pairs = ((codes "page[after]"), (codes "WyIyIl0")) ∷ ((codes "page[size]"), (codes "2")) ∷ []; page = record { size = 2; after = Some (after_id (codes "2")); before = None } } }))).body ≡ codes "{\"data\":[{\"attributes\":{\"text\":\"hello\"},\"id\":\"3\",\"links\":{\"self\":\"/notes/3\"},\"type\":\"notes\"}],\"links\":{\"next\":null,\"prev\":\"/notes?page%5Bbefore%5D=WyIzIl0&page%5Bsize%5D=2\"}}"
 unfolding digits escape_byte form_urlencoded_on_literals base64_on_literals
 second_page = refl
 
 -- the last items before a cursor
-first_page_back : (answer notes three_notes (task.Fetch (record { target = target.Collection 0; query = record { pairs = ((codes "page[before]"), (codes "WyIzIl0")) ∷ ((codes "page[size]"), (codes "1")) ∷ []; include = None; fields = []; sort = []; page = record { size = 1; after = None; before = Some (after_id (codes "3")) } } }))).body ≡ codes "{\"data\":[{\"attributes\":{\"text\":\"hello\"},\"id\":\"2\",\"links\":{\"self\":\"/notes/2\"},\"type\":\"notes\"}],\"links\":{\"next\":\"/notes?page%5Bafter%5D=WyIyIl0&page%5Bsize%5D=1\",\"prev\":\"/notes?page%5Bbefore%5D=WyIyIl0&page%5Bsize%5D=1\"}}"
+first_page_back : (answer notes three_notes (task.Fetch (record { target = target.Collection 0; query = record no_query { pairs = ((codes "page[before]"), (codes "WyIzIl0")) ∷ ((codes "page[size]"), (codes "1")) ∷ []; page = record { size = 1; after = None; before = Some (after_id (codes "3")) } } }))).body ≡ codes "{\"data\":[{\"attributes\":{\"text\":\"hello\"},\"id\":\"2\",\"links\":{\"self\":\"/notes/2\"},\"type\":\"notes\"}],\"links\":{\"next\":\"/notes?page%5Bafter%5D=WyIyIl0&page%5Bsize%5D=1\",\"prev\":\"/notes?page%5Bbefore%5D=WyIyIl0&page%5Bsize%5D=1\"}}"
 unfolding digits escape_byte form_urlencoded_on_literals base64_on_literals
 first_page_back = refl
 
 -- a cursor of a row that is no longer there
-after_removed : (answer notes (effect notes three_notes (remove_note (codes "2"))) (task.Fetch (record { target = target.Collection 0; query = record { pairs = ((codes "page[after]"), (codes "WyIyIl0")) ∷ []; include = None; fields = []; sort = []; page = record { size = 50; after = Some (after_id (codes "2")); before = None } } }))).body ≡ codes "{\"data\":[{\"attributes\":{\"text\":\"hello\"},\"id\":\"3\",\"links\":{\"self\":\"/notes/3\"},\"type\":\"notes\"}],\"links\":{\"next\":null,\"prev\":\"/notes?page%5Bbefore%5D=WyIzIl0\"}}"
+after_removed : (answer notes (effect notes three_notes (remove_note (codes "2"))) (task.Fetch (record { target = target.Collection 0; query = record no_query { pairs = ((codes "page[after]"), (codes "WyIyIl0")) ∷ []; page = record { size = 50; after = Some (after_id (codes "2")); before = None } } }))).body ≡ codes "{\"data\":[{\"attributes\":{\"text\":\"hello\"},\"id\":\"3\",\"links\":{\"self\":\"/notes/3\"},\"type\":\"notes\"}],\"links\":{\"next\":null,\"prev\":\"/notes?page%5Bbefore%5D=WyIzIl0\"}}"
 unfolding digits escape_byte form_urlencoded_on_literals base64_on_literals
 after_removed = refl
 
 -- an empty page has no links, though items stand before it
-past_end : (answer notes three_notes (task.Fetch (record { target = target.Collection 0; query = record { pairs = ((codes "page[after]"), (codes "WyI5Il0")) ∷ []; include = None; fields = []; sort = []; page = record { size = 50; after = Some (after_id (codes "9")); before = None } } }))).body ≡ codes "{\"data\":[],\"links\":{\"next\":null,\"prev\":null}}"
+past_end : (answer notes three_notes (task.Fetch (record { target = target.Collection 0; query = record no_query { pairs = ((codes "page[after]"), (codes "WyI5Il0")) ∷ []; page = record { size = 50; after = Some (after_id (codes "9")); before = None } } }))).body ≡ codes "{\"data\":[],\"links\":{\"next\":null,\"prev\":null}}"
 unfolding digits escape_byte
 past_end = refl
+
+-- notes 1 to 5
+abbrev five_notes : World
+five_notes = effect notes empty_world (task.Change (note ∷ note ∷ note ∷ note ∷ note ∷ []) reply_form.Results)
+
+abbrev range_of_notes : ℕ → List ℕ → List ℕ → List ℕ → List ℕ → List ℕ → List ℕ
+range_of_notes size digits after after_text before before_text =
+    (answer notes five_notes (task.Fetch (record {
+      target = target.Collection 0;
+      query = record no_query {
+        pairs = (codes "page[after]", after_text) ∷ (codes "page[before]", before_text) ∷ (codes "page[size]", digits) ∷ [];
+        page = record { size = size; after = Some (after_id after); before = Some (after_id before) };
+      };
+    }))).body
+
+-- between two cursors, cut short: the links keep neither cursor
+notes_cut_short : range_of_notes 2 (codes "2") (codes "1") (codes "WyIxIl0") (codes "5") (codes "WyI1Il0") ≡ codes "{\"data\":[{\"attributes\":{\"text\":\"hello\"},\"id\":\"2\",\"links\":{\"self\":\"/notes/2\"},\"type\":\"notes\"},{\"attributes\":{\"text\":\"hello\"},\"id\":\"3\",\"links\":{\"self\":\"/notes/3\"},\"type\":\"notes\"}],\"links\":{\"next\":\"/notes?page%5Bafter%5D=WyIzIl0&page%5Bsize%5D=2\",\"prev\":\"/notes?page%5Bbefore%5D=WyIyIl0&page%5Bsize%5D=2\"},\"meta\":{\"page\":{\"rangeTruncated\":true}}}"
+unfolding digits escape_byte form_urlencoded_on_literals base64_on_literals
+notes_cut_short = refl
+
+-- with room for all of them
+notes_between : range_of_notes 3 (codes "3") (codes "1") (codes "WyIxIl0") (codes "5") (codes "WyI1Il0") ≡ codes "{\"data\":[{\"attributes\":{\"text\":\"hello\"},\"id\":\"2\",\"links\":{\"self\":\"/notes/2\"},\"type\":\"notes\"},{\"attributes\":{\"text\":\"hello\"},\"id\":\"3\",\"links\":{\"self\":\"/notes/3\"},\"type\":\"notes\"},{\"attributes\":{\"text\":\"hello\"},\"id\":\"4\",\"links\":{\"self\":\"/notes/4\"},\"type\":\"notes\"}],\"links\":{\"next\":\"/notes?page%5Bafter%5D=WyI0Il0&page%5Bsize%5D=3\",\"prev\":\"/notes?page%5Bbefore%5D=WyIyIl0&page%5Bsize%5D=3\"}}"
+unfolding digits escape_byte form_urlencoded_on_literals base64_on_literals
+notes_between = refl
+
+-- the cursors exchanged
+notes_exchanged : range_of_notes 2 (codes "2") (codes "5") (codes "WyI1Il0") (codes "1") (codes "WyIxIl0") ≡ codes "{\"data\":[],\"links\":{\"next\":null,\"prev\":null}}"
+unfolding digits escape_byte form_urlencoded_on_literals base64_on_literals
+notes_exchanged = refl
 
 -- ids by length and then by bytes
 short_ids_first : map (λ row. row.key.id) (rows_of (effect nodes empty_world (task.Change (node (codes "b") ∷ node (codes "aa") ∷ node (codes "a") ∷ node (codes "Z") ∷ []) reply_form.Results)) 0) ≡ codes "Z" ∷ codes "a" ∷ codes "b" ∷ codes "aa" ∷ []
@@ -316,7 +346,7 @@ null_last : ids_of_rows (page_of (by_attribute 0 true) (no_cursors 50) (rows_of 
 unfolding digits escape_byte
 null_last = refl
 
-draft_page : (answer blog drafts (task.Fetch (record { target = target.Collection 0; query = record { pairs = ((codes "sort"), (codes "draft")) ∷ ((codes "page[size]"), (codes "1")) ∷ []; include = None; fields = (0, (codes "draft") ∷ []) ∷ []; sort = record { attribute = 0; descending = false } ∷ []; page = no_cursors 1 } }))).body ≡ codes "{\"data\":[{\"attributes\":{\"draft\":null},\"id\":\"2\",\"links\":{\"self\":\"/articles/2\"},\"type\":\"articles\"}],\"links\":{\"next\":\"/articles?page%5Bafter%5D=W251bGwsIjIiXQ&page%5Bsize%5D=1&sort=draft\",\"prev\":null}}"
+draft_page : (answer blog drafts (task.Fetch (record { target = target.Collection 0; query = record no_query { pairs = ((codes "sort"), (codes "draft")) ∷ ((codes "page[size]"), (codes "1")) ∷ []; fields = (0, (codes "draft") ∷ []) ∷ []; sort = record { attribute = 0; descending = false } ∷ []; page = no_cursors 1 } }))).body ≡ codes "{\"data\":[{\"attributes\":{\"draft\":null},\"id\":\"2\",\"links\":{\"self\":\"/articles/2\"},\"type\":\"articles\"}],\"links\":{\"next\":\"/articles?page%5Bafter%5D=W251bGwsIjIiXQ&page%5Bsize%5D=1&sort=draft\",\"prev\":null}}"
 unfolding digits escape_byte form_urlencoded_on_literals base64_on_literals
 draft_page = refl
 
@@ -329,7 +359,7 @@ by_title_down : ids_of_rows (page_of (by_attribute 1 true) (no_cursors 2) (rows_
 unfolding digits escape_byte
 by_title_down = refl
 
-title_page : (answer blog titled (task.Fetch (record { target = target.Collection 0; query = record { pairs = ((codes "sort"), (codes "-title")) ∷ ((codes "page[size]"), (codes "2")) ∷ []; include = None; fields = (0, []) ∷ []; sort = record { attribute = 1; descending = true } ∷ []; page = no_cursors 2 } }))).body ≡ codes "{\"data\":[{\"id\":\"1\",\"links\":{\"self\":\"/articles/1\"},\"type\":\"articles\"},{\"id\":\"3\",\"links\":{\"self\":\"/articles/3\"},\"type\":\"articles\"}],\"links\":{\"next\":\"/articles?page%5Bafter%5D=WyJiIiwiMyJd&page%5Bsize%5D=2&sort=-title\",\"prev\":null}}"
+title_page : (answer blog titled (task.Fetch (record { target = target.Collection 0; query = record no_query { pairs = ((codes "sort"), (codes "-title")) ∷ ((codes "page[size]"), (codes "2")) ∷ []; fields = (0, []) ∷ []; sort = record { attribute = 1; descending = true } ∷ []; page = no_cursors 2 } }))).body ≡ codes "{\"data\":[{\"id\":\"1\",\"links\":{\"self\":\"/articles/1\"},\"type\":\"articles\"},{\"id\":\"3\",\"links\":{\"self\":\"/articles/3\"},\"type\":\"articles\"}],\"links\":{\"next\":\"/articles?page%5Bafter%5D=WyJiIiwiMyJd&page%5Bsize%5D=2&sort=-title\",\"prev\":null}}"
 unfolding digits escape_byte form_urlencoded_on_literals base64_on_literals
 title_page = refl
 

@@ -11,15 +11,12 @@ use Rattle.resource_schema.specs.declared.schema.Schema.{Schema}
 use Rattle.resource_schema.specs.declared.kinds.Relationship.{Relationship}
 use Rattle.resource_schema.specs.Kinds.{attributes_of, relationships_of}
 use Rattle.resource_schema.specs.Forms.{HasForm}
-use Rattle.world_cells.specs.declared.keys.CellKey.{CellKey}
 use Rattle.world_cells.specs.declared.cells.TheConstants.{LAST_NEXT_ID}
 use Rattle.world_cells.specs.declared.rows.TheConstants.{LINK_LIMIT}
 use Rattle.world_cells.specs.declared.rows.Row.{Row}
 use Rattle.world_cells.specs.declared.rows.Link.{Link}
 use Rattle.world_cells.specs.declared.rows.Link.TheVariants.{One, Many}
-use Rattle.world_cells.specs.declared.sets.ReadSet.{ReadSet}
-use Rattle.world_cells.specs.World.{World, row_at, has_row, next_id, links_to, cell_at}
-use Rattle.world_cells.specs.Reads.{Cells, AgreeOn}
+use Rattle.world_cells.specs.World.{World, row_at, has_row, next_id, links_to}
 
 -- whether two ids are one
 abbrev pub same_id : List ℕ → List ℕ → Bool
@@ -46,14 +43,3 @@ pub record IsValid (schema : Schema) (w : World) : Type 0 where
   pub counters_sorted : T (is_sorted nat_cmp w.counters)
   pub rows : (k : Key) (row : Row) → row_at w k ≡ Some row → IsValidRow schema w k row
   pub counters : (kind n : ℕ) → find nat_cmp kind w.counters ≡ Some n → (kind < length schema) × (1 < n) × (n ≤ LAST_NEXT_ID)
-
--- a valid world whose cells agree with a store on what was read
-pub record IsPossible (schema : Schema) (reads : ReadSet) (store : Cells) (w : World) : Type 0 where
-  pub valid : IsValid schema w
-  pub agrees : AgreeOn reads (cell_at schema w) store
-
--- a store that is the cells of some valid world
-pub record IsWorld (schema : Schema) (store : Cells) : Type 0 where
-  pub world : World
-  pub valid : IsValid schema world
-  pub same : (k : CellKey) → cell_at schema world k ≡ store k

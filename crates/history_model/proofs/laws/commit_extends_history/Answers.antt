@@ -1,4 +1,4 @@
-use Rattle.history_model.specs.CommitLaws.{trial_holds, takes_entry}
+use Rattle.history_model.proofs.CommitLaws.{trial_holds, takes_entry}
 use Rattle.history_model.proofs.laws.commit_extends_history.Goals as goal
 
 pub returns : goal.returns

@@ -1,5 +1,5 @@
 use Rattle.history_model.specs.Histories.{MeetsReads}
-use Rattle.history_model.specs.LogLaws.{least_is_one}
+use Rattle.history_model.proofs.LogLaws.{least_is_one}
 use Rattle.history_model.proofs.laws.conflict_is_one.Goals as goal
 
 pub returns : goal.returns

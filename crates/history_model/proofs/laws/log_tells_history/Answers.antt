@@ -1,4 +1,4 @@
-use Rattle.history_model.specs.LogLaws.{judges}
+use Rattle.history_model.proofs.LogLaws.{judges}
 use Rattle.history_model.proofs.laws.log_tells_history.Goals as goal
 
 pub returns : goal.returns

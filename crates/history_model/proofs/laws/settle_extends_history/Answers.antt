@@ -1,4 +1,4 @@
-use Rattle.history_model.specs.CommitLaws.{last_holds, takes_entry}
+use Rattle.history_model.proofs.CommitLaws.{last_holds, takes_entry}
 use Rattle.history_model.proofs.laws.settle_extends_history.Goals as goal
 
 pub returns : goal.returns

@@ -1,4 +1,4 @@
-use Rattle.history_model.specs.CommitLaws.{trial_holds}
+use Rattle.history_model.proofs.CommitLaws.{trial_holds}
 use Rattle.history_model.proofs.laws.trial_stays_right.Goals as goal
 
 pub returns : goal.returns

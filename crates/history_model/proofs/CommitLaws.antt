@@ -13,11 +13,12 @@ use Rattle.world_cells.specs.World.{World}
 use Rattle.world_cells.specs.Reads.{Cells, AgreeOn, entries_of, overlay, Leads}
 use Rattle.world_cells.specs.Lists.{IsIn}
 use Rattle.task_forms.specs.Meaning.{Meaning, IsLawful}
+use Rattle.task_forms.specs.MeaningLaws.{after_more}
 use Rattle.history_model.specs.Trials.{IsTried}
 use Rattle.task_forms.specs.Meaning.{world_after, AreAnswers, IsLegal}
 use Rattle.history_model.specs.Histories.{world_at, Exactly, Noted, Writings, IsAbove}
 use Rattle.history_model.specs.Standing.{IsLastOf, Log, Keeps, Stands, NoneMeets, Pushes}
-use Rattle.history_model.specs.LogLaws.{RisesAbove}
+use Rattle.history_model.proofs.LogLaws.{RisesAbove}
 use Rattle.history_model.specs.Laws.{TakesEntry}
 
 not_less : (a b : ℕ) → (a < b → ⊥) → b ≤ a
@@ -71,10 +72,6 @@ module _ (m : Meaning) where
   legal_more : (w : World) (es : List Entry) (e : Entry) → AreAnswers m w es → m.fit e.task → e.reply ≡ m.answer (world_after m w es) e.task → AreAnswers m w (es ++ e ∷ [])
   legal_more w [] e l f r = (f, r, tt)
   legal_more w (x ∷ xs) e l f r = (l.0, l.1, legal_more (m.effect w x.task) xs e l.2 f r)
-
-  pub after_more : (w : World) (es : List Entry) (e : Entry) → world_after m w (es ++ e ∷ []) ≡ m.effect (world_after m w es) e.task
-  after_more w [] e = refl
-  after_more w (x ∷ xs) e = after_more (m.effect w x.task) xs e
 
   ascends : (n : ℕ) (w : World) (es : List Entry) (ws : List Noted) → Writings m n w es ws → RisesAbove n ws
   ascends n w [] ws h = subst (RisesAbove n) (sym h) tt

@@ -14,7 +14,7 @@ use Rattle.history_model.specs.declared.checks.Check.{Check}
 use Rattle.history_model.specs.declared.checks.Check.TheVariants as check
 use Rattle.task_forms.specs.Meaning.{world_after}
 use Rattle.history_model.specs.Histories.{IsLeastAbove, Noted, Writings, Writes, IsNumber, MeetsReads, IsConflict, IsAbove, last_dropped, world_at}
-use Rattle.history_model.specs.Standing.{IsSaid, Judges, Log, Keeps, IsLastOf, Meets, NoneMeets, IsFirstMeeting}
+use Rattle.history_model.specs.Standing.{IsSaid, LogSays, Log, Keeps, IsLastOf, Meets, NoneMeets, IsFirstMeeting}
 
 -- ---- the entry that was dropped last
 
@@ -224,7 +224,7 @@ first_of_all reads since n [] kept up h = h
 first_of_all reads since n (x ∷ old) kept up h = inr ((λ low. let h : x.number ≤ since = up.0 in let no : ⊥ = omega arith in absurd no), first_of_all reads since n old kept up.1 h)
 
 pub judges : (m : Meaning) (first : ℕ) (w : World) (entries : List Entry) (noted : List Noted) → Writings m first w entries noted → (log : Log) → Keeps log noted → (reads : ReadSet) (since : ℕ) (check : Check)
-    → Judges log reads since check → IsSaid m first w entries log.window reads since check
+    → LogSays log reads since check → IsSaid m first w entries log.window reads since check
 judges m first w entries noted writings log keeps reads since check.Clear said = (
   no_conflict m first w entries noted writings reads since (subst (NoneMeets reads since) (sym keeps.all) (none_of_all reads since keeps.old log.kept (old_up_to since first keeps.old log.kept log.dropped (subst (RisesAbove first) keeps.all (writings_rise m first w entries noted writings)) keeps.last said.0) said.1)),
   (noted, writings, subst (λ o. ¬ IsAbove since o) (sym (log_dropped log noted keeps)) said.0),

@@ -26,9 +26,3 @@ module _ (m : Meaning) (first : ℕ) (w0 : World) (entries : List Entry) (reads 
     where
       all : take (at + ((first + length entries) - at) - first) entries ≡ entries
       all = let enough : length entries ≤ at + ((first + length entries) - at) - first = omega arith in grind (arith, common_steps)
-
--- a list of answers with one more
-pub one_more : (m : Meaning) (w : World) (entries : List Entry) (e : Entry)
-    → AreAnswers m w entries → m.fit e.task → e.reply ≡ m.answer (world_after m w entries) e.task → AreAnswers m w (entries ++ e ∷ [])
-one_more m w [] e legal fits is = (fits, is, tt)
-one_more m w (x ∷ entries) e legal fits is = (legal.0, legal.1, one_more m (m.effect w x.task) entries e legal.2 fits is)
