@@ -17,7 +17,7 @@ use Rattle.http_bodies.specs.declared.bodies.BodyEnd.{BodyEnd}
 use Rattle.http_bodies.specs.declared.bodies.BodyEnd.TheVariants as found
 use Rattle.http_bodies.specs.declared.chunks.PieceEnd.{PieceEnd}
 use Rattle.http_bodies.specs.declared.chunks.PieceEnd.TheVariants as end
-use Rattle.http_messages.specs.declared.limits.TheConstants.{BODY_LIMIT}
+use Rattle.http_messages.specs.declared.limits.TheConstants.{BODY_LIMIT, CHUNK_LINE_LIMIT}
 
 -- ---- what was seen
 
@@ -58,7 +58,7 @@ line_reads len size line rest h = record { reads = (h.good, refl); fits = h.fits
 -- ---- behind a line
 
 pub on_bad_trailers : (len : ℕ) (line : ChunkLine) (middle body : List ℕ) → IsLineOf len 0 line → IsBadTrailers middle
-    → IsBadPiece (length body) (print_chunk_line line ++ middle) len × (len ≤ 1049600)
+    → IsBadPiece (length body) (print_chunk_line line ++ middle) len × (len ≤ BODY_LIMIT + CHUNK_LINE_LIMIT)
 on_bad_trailers len line middle body h bad = (
   subst (IsBadPiece (length body) (print_chunk_line line ++ middle)) (sym h.len_is) (bad_trailers line middle (line_reads len 0 line middle h) (sym h.size_is) bad),
   omega (arith, h.len_is, h.fits),
@@ -75,7 +75,7 @@ on_cut_edge len size line part after body h some within whole edge =
     cut_end line (part ++ after) part after (line_reads len size line (part ++ after) h) (omega (arith, h.size_is)) (omega (arith, h.size_is)) refl (whole ∙ h.size_is) edge
 
 pub on_bad_edge : (len size : ℕ) (line : ChunkLine) (part after body : List ℕ) → IsLineOf len size line → 0 < size → length body + size ≤ BODY_LIMIT → length part ≡ size → IsBadEnd after
-    → IsBadPiece (length body) (print_chunk_line line ++ (part ++ after)) (len + size) × (len + size ≤ 1049600)
+    → IsBadPiece (length body) (print_chunk_line line ++ (part ++ after)) (len + size) × (len + size ≤ BODY_LIMIT + CHUNK_LINE_LIMIT)
 on_bad_edge len size line part after body h some within whole bad =
     let place : length (print_chunk_line line) + chunk_size line ≡ len + size = omega (arith, h.size_is, h.len_is) in (
       subst (IsBadPiece (length body) (print_chunk_line line ++ (part ++ after))) place

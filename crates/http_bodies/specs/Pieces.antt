@@ -25,7 +25,7 @@ PieceOn body body_now seen left now (end.Chunk n) =
 PieceOn body body_now seen left now end.Last =
     (line : ChunkLine) × (middle : List ℕ) × TakesChunkLine seen line middle × (chunk_size line ≡ 0) × TakesTrailers middle now × (body_now ≡ body)
 PieceOn body body_now seen left now end.Cut = IsAtEnd left × IsCutPiece (length body) seen
-PieceOn body body_now seen left now (end.Bad on) = IsBadPiece (length body) seen on × (on ≤ 1049600)
+PieceOn body body_now seen left now (end.Bad on) = IsBadPiece (length body) seen on × (on ≤ BODY_LIMIT + CHUNK_LINE_LIMIT)
 PieceOn body body_now seen left now end.TooLarge =
     (line : ChunkLine) × (middle : List ℕ) × TakesChunkLine seen line middle × (BODY_LIMIT < length body + chunk_size line)
 PieceOn body body_now seen left now end.Fault = IsCutPiece (length body) seen

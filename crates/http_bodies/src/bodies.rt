@@ -1,5 +1,6 @@
 ghost use Rattle.std.specs.Prelude.{◌≡◌, ◌≤◌, ◌++◌, IfSome};
 ghost use Rattle.http_messages.specs.declared.framings.Framing.TheVariants.{Length};
+ghost use Rattle.http_messages.specs.declared.limits.TheConstants.{BODY_LIMIT};
 ghost use Rattle.http_bodies.specs.Body.{FitsLimit, TakesBody, BodyCause, BodyOfRest};
 
 use crate::chunks::take_chunked;
@@ -30,7 +31,7 @@ pub enum BodyEnd {
 
 // Takes a body of so many bytes.
 fn take_sized<S: Source>(alloc: Global, source: &mut S, buffer: &mut Buffer, size: usize) -> BodyEnd
-    requires { size ≤ 1048576 }
+    requires { size ≤ BODY_LIMIT }
     ensures takes { TakesBody (Length size) buffer.old buffer.new (S.told source.old) (S.told source.new) result }
     ensures cause { BodyCause (S.told source.old) (S.told source.new) result }
 {

@@ -1,6 +1,7 @@
 ghost use Rattle.std.specs.Prelude.{◌≡◌, ◌+◌, ◌<◌, ◌≤◌, ◌++◌, ℕ, List, length};
 ghost use Rattle.httparse.specs.Grammar.{ChunkLine, print_chunk_line};
 ghost use Rattle.http_messages.specs.declared.framings.Framing.TheVariants.{Chunked};
+ghost use Rattle.http_messages.specs.declared.limits.TheConstants.{BODY_LIMIT, CHUNK_LINE_LIMIT};
 ghost use Rattle.http_bodies.specs.Pieces.{IsLineOf, TakesPiece, PieceCause};
 ghost use Rattle.http_bodies.specs.Body.{TakesBody, BodyCause};
 
@@ -10,6 +11,7 @@ use crate::lines::{LineEnd, take_line};
 use crate::parts::{PartEnd, take_part};
 use crate::trailers::{TrailersEnd, take_trailers};
 use http_framing::Buffer;
+use http_messages::BODY_LIMIT;
 use ident_rules::Bytes;
 use outer_ends::Source;
 use std::alloc::Global;
@@ -42,8 +44,8 @@ fn take_data<S: Source>(
     size: usize,
 ) -> PieceEnd
     requires some { 0 < size }
-    requires within { length body.old.items + size ≤ 1048576 }
-    requires line { len ≤ 1024 }
+    requires within { length body.old.items + size ≤ BODY_LIMIT }
+    requires line { len ≤ CHUNK_LINE_LIMIT }
     ensures takes { (line : ChunkLine) → IsLineOf len size line → TakesPiece body.old.items body.new.items (print_chunk_line line ++ buffer.old) buffer.new (S.told source.old) (S.told source.new) result }
     ensures cause { PieceCause (S.told source.old) (S.told source.new) result }
 {
@@ -88,15 +90,15 @@ fn take_behind<S: Source>(
     len: usize,
     size: u64,
 ) -> PieceEnd
-    requires within { length body.old.items ≤ 1048576 }
-    requires line { len ≤ 1024 }
+    requires within { length body.old.items ≤ BODY_LIMIT }
+    requires line { len ≤ CHUNK_LINE_LIMIT }
     ensures takes { (line : ChunkLine) → IsLineOf len size line → TakesPiece body.old.items body.new.items (print_chunk_line line ++ buffer.old) buffer.new (S.told source.old) (S.told source.new) result }
     ensures cause { PieceCause (S.told source.old) (S.told source.new) result }
 {
     if size == 0 {
         return take_last(source, buffer, len);
     }
-    let free = 1_048_576 - body.len();
+    let free = BODY_LIMIT - body.len();
     if (free as u64) < size {
         return PieceEnd::TooLarge;
     }
@@ -105,7 +107,7 @@ fn take_behind<S: Source>(
 
 // Takes a chunk, or the last chunk and the trailer section.
 fn take_piece<S: Source>(source: &mut S, buffer: &mut Buffer, body: &mut Vec<u8>) -> PieceEnd
-    requires { length body.old.items ≤ 1048576 }
+    requires { length body.old.items ≤ BODY_LIMIT }
     ensures takes { TakesPiece body.old.items body.new.items buffer.old buffer.new (S.told source.old) (S.told source.new) result }
     ensures cause { PieceCause (S.told source.old) (S.told source.new) result }
 {

@@ -4,6 +4,7 @@ ghost use Rattle.http_bodies.specs.Lines.{LineIs, LineOn, LineCause};
 ghost use Rattle.http_messages.specs.declared.limits.TheConstants.{CHUNK_LINE_LIMIT};
 
 use http_framing::{Buffer, Fill};
+use http_messages::CHUNK_LINE_LIMIT;
 use httparse::{Status, parse_chunk_size};
 use outer_ends::Source;
 
@@ -50,11 +51,11 @@ pub fn take_line<S: Source>(source: &mut S, buffer: &mut Buffer) -> LineEnd
 {
     'reading: loop {
         let bytes = buffer.as_slice();
-        match judge_line(&bytes[..bytes.len().min(1024)]) {
+        match judge_line(&bytes[..bytes.len().min(CHUNK_LINE_LIMIT)]) {
             Line::Whole(len, size) => return LineEnd::Line(len, size),
             Line::Never => return LineEnd::Bad,
             Line::Open => {
-                if 1024 <= bytes.len() {
+                if CHUNK_LINE_LIMIT <= bytes.len() {
                     return LineEnd::Bad;
                 }
             }

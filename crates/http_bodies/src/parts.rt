@@ -1,4 +1,5 @@
 ghost use Rattle.std.specs.Prelude.{◌≡◌, ◌+◌, ◌≤◌, length, OnOk, OnErr};
+ghost use Rattle.http_messages.specs.declared.limits.TheConstants.{BODY_LIMIT};
 ghost use Rattle.http_bodies.specs.Parts.{Moves, TakesPart, PartCause};
 
 use http_framing::{Buffer, Fill};
@@ -37,7 +38,7 @@ pub fn take_part<S: Source>(
     body: &mut Vec<u8>,
     size: usize,
 ) -> PartEnd
-    requires { length body.old.items + size ≤ 1048576 }
+    requires { length body.old.items + size ≤ BODY_LIMIT }
     ensures takes { TakesPart size body.old.items body.new.items buffer.old buffer.new (S.told source.old) (S.told source.new) result }
     ensures cause { PartCause (S.told source.old) (S.told source.new) result }
 {

@@ -2,6 +2,7 @@ ghost use Rattle.http_framing.specs.Fills.{Adds};
 ghost use Rattle.http_bodies.specs.Trailers.{TrailersOn, TrailersCause};
 
 use http_framing::{Buffer, Fill, Section};
+use http_messages::TRAILER_LIMIT;
 use outer_ends::Source;
 
 /// What was found where trailers should stand.
@@ -28,7 +29,7 @@ pub fn take_trailers<S: Source>(source: &mut S, buffer: &mut Buffer) -> Trailers
             Section::Whole(len) => return TrailersEnd::Trailers(len),
             Section::Never => return TrailersEnd::Bad,
             Section::Open => {
-                if 16384 <= buffer.as_slice().len() {
+                if TRAILER_LIMIT <= buffer.as_slice().len() {
                     return TrailersEnd::Bad;
                 }
             }

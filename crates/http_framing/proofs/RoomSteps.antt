@@ -65,7 +65,7 @@ take_both (suc m) (suc n) (x ∷ xs) =
     ap (λ (k : ℕ). take k (x ∷ xs)) one ∙ ap (λ (l : List ℕ). x ∷ l) (take_both m n xs)
 
 -- the front of the bytes in use
-pub used_front : (room : List ℕ) (s e : ℕ) → s ≤ e → slice_range room s (min e (s + 16384)) ≡ take 16384 (slice_range room s e)
-used_front room s e ordered =
-    let count : min e (s + 16384) - s ≡ min 16384 (e - s) = omega arith in
-    ap (λ (k : ℕ). take k (drop s room)) count ∙ take_both 16384 (e - s) (drop s room)
+pub used_front : (limit : ℕ) (room : List ℕ) (s e : ℕ) → s ≤ e → slice_range room s (min e (s + limit)) ≡ take limit (slice_range room s e)
+used_front limit room s e ordered =
+    let count : min e (s + limit) - s ≡ min limit (e - s) = omega arith in
+    ap (λ (k : ℕ). take k (drop s room)) count ∙ take_both limit (e - s) (drop s room)

@@ -6,6 +6,7 @@ use Rattle.std.proofs.lemmas.List.Folds.{list_all_at}
 use Rattle.std.proofs.lemmas.Bool.{false≢true}
 use Rattle.std.specs.Str.Parse.{digits_value_after}
 use Rattle.std.specs.Char.{digit_value, is_ascii_digit}
+use Rattle.http_messages.specs.declared.limits.TheConstants.{BODY_LIMIT}
 
 grows : (n : ℕ) (ds : List ℕ) → n ≤ digits_value_after 10 n ds
 grows n [] = omega arith
@@ -32,7 +33,7 @@ digit_at ds i h within = at (is_ascii_digit (get_or ds i 0)) refl
 
 -- one more digit
 pub capped_on : (ds : List ℕ) (i size : ℕ) → IsTrue (list_all is_ascii_digit ds) → i < length ds
-    → min (digits_value_after 10 (min (size * 10 + (get_or ds i 0 - 48)) 1048577) (drop (i + 1) ds)) 1048577 ≡ min (digits_value_after 10 size (drop i ds)) 1048577
+    → min (digits_value_after 10 (min (size * 10 + (get_or ds i 0 - 48)) (BODY_LIMIT + 1)) (drop (i + 1) ds)) (BODY_LIMIT + 1) ≡ min (digits_value_after 10 size (drop i ds)) (BODY_LIMIT + 1)
 capped_on ds i size h within =
     let d = get_or ds i 0 in
     let on : digits_value_after 10 size (drop i ds) ≡ digits_value_after 10 (size * 10 + (d - 48)) (drop (i + 1) ds) =
@@ -40,4 +41,4 @@ capped_on ds i size h within =
     ap (digits_value_after 10 size) (drop-cons ds i 0 within)
     ∙ ap (λ (k : ℕ). digits_value_after 10 (size * 10 + k) (drop (suc i) ds)) (digit_of d (digit_at ds i h within))
     ) in
-    capped (size * 10 + (d - 48)) 1048577 (drop (i + 1) ds) ∙ ap (λ (k : ℕ). min k 1048577) (sym on)
+    capped (size * 10 + (d - 48)) (BODY_LIMIT + 1) (drop (i + 1) ds) ∙ ap (λ (k : ℕ). min k (BODY_LIMIT + 1)) (sym on)

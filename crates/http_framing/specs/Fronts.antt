@@ -8,8 +8,8 @@ use Rattle.http_model.specs.Heads.{is_visible, ReadsHead, IsOpen, NeverHasHead, 
 use Rattle.http_model.specs.Messages.{IsMessageHead, FitsLimit}
 use Rattle.http_framing.specs.declared.fronts.Front.{Front}
 use Rattle.http_framing.specs.declared.fronts.Front.TheVariants.{Whole, Open, Never}
-use Rattle.http_framing.specs.declared.fronts.Judged.{Judged}
-use Rattle.http_framing.specs.declared.fronts.Judged.TheVariants as judged
+use Rattle.http_framing.specs.declared.fronts.HeadSoFar.{HeadSoFar}
+use Rattle.http_framing.specs.declared.fronts.HeadSoFar.TheVariants as so_far
 use Rattle.http_messages.specs.declared.limits.TheConstants.{FIELD_LIMIT}
 
 -- the spans are those of a whole head at the front of the bytes
@@ -25,10 +25,10 @@ FrontIs bytes headers Open = IsOpen bytes
 FrontIs bytes headers Never = NeverHasHead bytes
 
 -- what stands at the front of a buffer
-abbrev pub JudgedIs : List ℕ → Judged → Type 0
-JudgedIs buffer (judged.Head m len) =
+abbrev pub HeadSoFarIs : List ℕ → HeadSoFar → Type 0
+HeadSoFarIs buffer (so_far.Head m len) =
     (len ≤ length buffer) × (h : RequestHead) × ReadsHead buffer h (drop len buffer) × FitsLimit h × (length h.fields ≤ FIELD_LIMIT) × IsMessageHead m h
-JudgedIs buffer judged.TooMany = (h : RequestHead) × (rest : List ℕ) × ReadsHead buffer h rest × FitsLimit h × (FIELD_LIMIT < length h.fields)
-JudgedIs buffer judged.Open = IsOpen (front buffer)
-JudgedIs buffer judged.Never = NeverHasHead (front buffer)
-JudgedIs buffer judged.NoMemory = ⊤
+HeadSoFarIs buffer so_far.TooMany = (h : RequestHead) × (rest : List ℕ) × ReadsHead buffer h rest × FitsLimit h × (FIELD_LIMIT < length h.fields)
+HeadSoFarIs buffer so_far.Open = IsOpen (front buffer)
+HeadSoFarIs buffer so_far.Never = NeverHasHead (front buffer)
+HeadSoFarIs buffer so_far.NoMemory = ⊤

@@ -2,17 +2,25 @@ ghost use Rattle.std.specs.Prelude.{◌≡◌, ◌<◌, ◌≤◌, ◌+◌, [], 
 ghost use Rattle.std.specs.List.{slice_range};
 ghost use Rattle.outer_ends.specs.Causes.{HasCause};
 ghost use Rattle.outer_ends.specs.Streams.{ReadTakes, ReadLeaves};
+ghost use Rattle.http_framing.specs.declared.buffer.TheConstants.{ROOM};
 ghost use Rattle.http_framing.specs.Fills.{Adds, FillIs};
-ghost use Rattle.http_framing.specs.Fronts.{JudgedIs};
+ghost use Rattle.http_framing.specs.Fronts.{HeadSoFarIs};
 ghost use Rattle.http_framing.specs.Sections.{SectionIs};
 
-use crate::fronts::{Judged, judge};
+use crate::fronts::{HeadSoFar, judge};
 use crate::sections::{Section, judge_section};
+use http_messages::{HEAD_LIMIT, TRAILER_LIMIT};
 use httparse::spans::{EMPTY_HEADER_SPAN, HeaderSpan};
 use ident_rules::NoMemory;
 use outer_ends::{Failed, Source};
 use std::alloc::Global;
 use std::marker::Model;
+
+/// The bytes of the room of a buffer: those of two heads.
+pub const ROOM: usize = 32_768;
+
+/// The fields that a head's bytes have room for, each of three bytes at least.
+pub const SPANS: usize = 5_462;
 
 /// What a read into the buffer found.
 #[derive(Clone, Copy, Debug, PartialEq, Eq)]
@@ -26,7 +34,7 @@ pub enum Fill {
 }
 
 /// The bytes that were read and not used, in a room of 32,768 bytes, and room for the spans of the fields
-/// that 16,384 bytes can hold. Both are made once. Contracts see the buffer as the list of its bytes.
+/// that a head can hold. Both are made once. Contracts see the buffer as the list of its bytes.
 #[derive(Drop)]
 pub struct Buffer {
     room: Vec<u8>,
@@ -51,14 +59,14 @@ impl Model for Buffer {
 fn make_room(room: &mut Vec<u8>, start: usize, end: usize) -> (usize, usize)
     requires ordered { start ≤ end }
     requires within { end ≤ length room.old.items }
-    requires size { length room.old.items ≡ 32768 }
-    requires free { end < start + 32768 }
+    requires size { length room.old.items ≡ ROOM }
+    requires free { end < start + ROOM }
     ensures ordered { result.0 ≤ result.1 }
     ensures free { result.1 < length room.new.items }
     ensures len { length room.new.items ≡ length room.old.items }
     ensures kept { slice_range room.new.items result.0 result.1 ≡ slice_range room.old.items start end }
 {
-    if room.len() - end < 16384 {
+    if room.len() - end < HEAD_LIMIT {
         room.copy_within(start..end, 0);
         (0, end - start)
     } else {
@@ -84,10 +92,10 @@ impl Buffer {
     pub fn new(alloc: Global) -> Result<Buffer, NoMemory>
         ensures { IfOk result (λ b. b ≡ []) }
     {
-        let Ok(room) = vec![in alloc; 0u8; 32768] else {
+        let Ok(room) = vec![in alloc; 0u8; ROOM] else {
             return Err(NoMemory);
         };
-        let Ok(spans) = vec![in alloc; EMPTY_HEADER_SPAN; 5462] else {
+        let Ok(spans) = vec![in alloc; EMPTY_HEADER_SPAN; SPANS] else {
             return Err(NoMemory);
         };
         Ok(Buffer {
@@ -106,11 +114,11 @@ impl Buffer {
     }
 
     /// What stands at the front of the bytes, judged by the first 16,384 of them.
-    pub(crate) fn judge(&mut self, alloc: Global) -> Judged
+    pub(crate) fn judge(&mut self, alloc: Global) -> HeadSoFar
         ensures kept { self.new ≡ self.old }
-        ensures judged { JudgedIs self.old result }
+        ensures judged { HeadSoFarIs self.old result }
     {
-        let end = self.end.min(self.start + 16384);
+        let end = self.end.min(self.start + HEAD_LIMIT);
         judge(alloc, &self.room[self.start..end], &mut self.spans)
     }
 
@@ -120,7 +128,7 @@ impl Buffer {
         ensures kept { self.new ≡ self.old }
         ensures judged { SectionIs self.old result }
     {
-        let end = self.end.min(self.start + 16384);
+        let end = self.end.min(self.start + TRAILER_LIMIT);
         judge_section(&self.room[self.start..end], &mut self.spans)
     }
 
@@ -134,7 +142,7 @@ impl Buffer {
 
     /// Reads once, as much as there is room for, and adds what came.
     pub fn fill<S: Source>(&mut self, source: &mut S) -> Fill
-        requires { length self.old < 32768 }
+        requires { length self.old < ROOM }
         ensures adds { Adds self.old self.new (S.told source.old) (S.told source.new) }
         ensures end { FillIs self.old self.new (S.told source.old) (S.told source.new) result }
     {

@@ -1,10 +1,10 @@
 ghost use Rattle.std.specs.Prelude.{◌≡◌, ◌≤◌, ◌*◌, ℕ, List, length};
 ghost use Rattle.http_model.specs.Heads.{front};
-ghost use Rattle.http_framing.specs.Fronts.{FrontIs, JudgedIs};
+ghost use Rattle.http_framing.specs.Fronts.{FrontIs, HeadSoFarIs};
 
 use crate::targets::{is_all_visible, is_target_visible};
 use crate::texts::message_of;
-use http_messages::Message;
+use http_messages::{FIELD_LIMIT, Message};
 use http_model::heads_are_decided;
 use httparse::spans::{HeaderSpan, RequestSpans, parse_request};
 use httparse::{Error, Status};
@@ -49,7 +49,7 @@ pub fn judge_front(bytes: &[u8], spans: &mut [HeaderSpan]) -> Front
 
 /// What stands at the front of a buffer.
 #[derive(Drop)]
-pub enum Judged {
+pub enum HeadSoFar {
     /// A whole head, and how many bytes it has.
     Head(Message, usize),
     /// A whole head of more than 64 fields.
@@ -63,20 +63,20 @@ pub enum Judged {
 }
 
 /// Judges the bytes at the front of a buffer, and makes the message of a whole head.
-pub fn judge(alloc: Global, bytes: &[u8], spans: &mut [HeaderSpan]) -> Judged
+pub fn judge(alloc: Global, bytes: &[u8], spans: &mut [HeaderSpan]) -> HeadSoFar
     requires { length bytes.now ≤ 3 * length spans.old }
-    ensures { (buffer : List ℕ) → bytes.now ≡ front buffer → JudgedIs buffer result }
+    ensures { (buffer : List ℕ) → bytes.now ≡ front buffer → HeadSoFarIs buffer result }
 {
     match judge_front(bytes, spans) {
-        Front::Open => Judged::Open,
-        Front::Never => Judged::Never,
+        Front::Open => HeadSoFar::Open,
+        Front::Never => HeadSoFar::Never,
         Front::Whole(found) => {
-            if 64 < found.headers {
-                return Judged::TooMany;
+            if FIELD_LIMIT < found.headers {
+                return HeadSoFar::TooMany;
             }
             match message_of(alloc, bytes, spans, found) {
-                Ok(message) => Judged::Head(message, found.len),
-                Err(NoMemory) => Judged::NoMemory,
+                Ok(message) => HeadSoFar::Head(message, found.len),
+                Err(NoMemory) => HeadSoFar::NoMemory,
             }
         }
     }

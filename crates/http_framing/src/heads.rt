@@ -3,8 +3,8 @@ ghost use Rattle.http_model.specs.Blanks.{empty_lines};
 ghost use Rattle.http_framing.specs.Taken.{TakesHead, HeadCause, HeadOfRest};
 
 use crate::buffer::{Buffer, Fill};
-use crate::fronts::Judged;
-use http_messages::Message;
+use crate::fronts::HeadSoFar;
+use http_messages::{HEAD_LIMIT, Message};
 use http_model::{heads_are_decided, read_stays};
 use outer_ends::Source;
 use std::alloc::Global;
@@ -55,15 +55,15 @@ fn take_front<S: Source>(alloc: Global, source: &mut S, buffer: &mut Buffer) -> 
     heads_are_decided();
     'reading: loop {
         match buffer.judge(alloc) {
-            Judged::Head(message, len) => {
+            HeadSoFar::Head(message, len) => {
                 buffer.advance(len);
                 return HeadEnd::Head(message);
             }
-            Judged::TooMany => return HeadEnd::TooMany,
-            Judged::Never => return HeadEnd::Bad,
-            Judged::NoMemory => return HeadEnd::NoMemory,
-            Judged::Open => {
-                if 16384 <= buffer.as_slice().len() {
+            HeadSoFar::TooMany => return HeadEnd::TooMany,
+            HeadSoFar::Never => return HeadEnd::Bad,
+            HeadSoFar::NoMemory => return HeadEnd::NoMemory,
+            HeadSoFar::Open => {
+                if HEAD_LIMIT <= buffer.as_slice().len() {
                     return HeadEnd::TooLarge;
                 }
             }

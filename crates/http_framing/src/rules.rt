@@ -1,12 +1,16 @@
-ghost use Rattle.std.specs.Prelude.{◌≡◌, ◌<◌, min, false, IsTrue};
+ghost use Rattle.std.specs.Prelude.{◌≡◌, ◌+◌, ◌<◌, min, false, IsTrue};
 ghost use Rattle.std.specs.List.{list_all};
 ghost use Rattle.std.specs.Char.{is_ascii_digit};
 ghost use Rattle.std.specs.Str.Parse.{digits_value};
 ghost use Rattle.http_model.specs.Framings.{breaks_host, has_two_framings, has_bad_coding, has_unknown_coding, has_bad_length, has_long_body, has_other_expectation, is_number, framing_of, framed_by, expects_continue, frames_body, is_head, closes};
+ghost use Rattle.http_messages.specs.declared.limits.TheConstants.{BODY_LIMIT};
 
 use crate::fields::{count_named, first_named, has_other_named, has_part_named, last_part_named};
 use crate::parts::{same_bytes, same_in_any_case};
-use http_messages::{Framing, HeadFault, Message};
+use http_messages::{BODY_LIMIT, Framing, HeadFault, MESSAGE_LIMIT, Message};
+
+/// One byte more than the greatest body.
+const OVER_BODY: u64 = BODY_LIMIT as u64 + 1;
 
 // HTTP/1.1 without exactly one Host, or HTTP/1.0 with more than one.
 fn breaks_host(head: &Message) -> bool
@@ -75,14 +79,14 @@ fn has_bad_length(head: &Message) -> bool
     !(lengths == 1 && is_number(first_named(fields, b"content-length")))
 }
 
-// The number that digits write, or 1,048,577 where it is greater.
+// The number that digits write, or one that is over the greatest body where it is greater.
 fn size_of(digits: &[u8]) -> u64
     requires { IsTrue (list_all is_ascii_digit digits.now) }
-    ensures { result ≡ min (digits_value 10 digits.now) 1048577 }
+    ensures { result ≡ min (digits_value 10 digits.now) (BODY_LIMIT + 1) }
 {
     let mut size: u64 = 0;
     for digit in digits {
-        size = (size * 10 + u64::from(*digit - b'0')).min(1_048_577);
+        size = (size * 10 + u64::from(*digit - b'0')).min(OVER_BODY);
     }
     size
 }
@@ -96,7 +100,7 @@ fn has_long_body(head: &Message) -> bool
     if count_named(fields, b"content-length") == 0 {
         return false;
     }
-    1_048_576 < size_of(first_named(fields, b"content-length"))
+    (BODY_LIMIT as u64) < size_of(first_named(fields, b"content-length"))
 }
 
 // HTTP/1.1 with an Expect other than 100-continue.
@@ -185,5 +189,5 @@ pub fn closes(message: &Message, number: u64) -> bool
 {
     message.minor == 0
         || has_part_named(message.fields.as_slice(), b"connection", b"close")
-        || number == 1_000_000
+        || number == MESSAGE_LIMIT
 }

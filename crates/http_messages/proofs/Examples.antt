@@ -6,20 +6,17 @@ use Rattle.http_messages.specs.declared.messages.Reply.{Reply}
 use Rattle.http_messages.specs.declared.messages.Content.TheVariants as content
 use Rattle.http_messages.specs.declared.messages.Allow.TheVariants as allow
 use Rattle.http_messages.specs.declared.messages.Stop.TheVariants as stop
+use Rattle.http_messages.specs.Replies.{bare_reply, plain_reply, located_reply}
 use Rattle.http_messages.specs.ReplyText.{reason, reply_text, interim_text, unavailable_text, stop_text, methods}
 
 abbrev note : List ℕ
 note = codes "{\"data\":{\"attributes\":{\"text\":\"hello\"},\"id\":\"1\",\"links\":{\"self\":\"/notes/1\"},\"type\":\"notes\"}}"
 
 abbrev fetched_reply : Reply
-fetched_reply = record { status = 200; content = content.Plain; location = None; allow = allow.Nothing; body = note }
+fetched_reply = plain_reply 200 note
 
 abbrev created_reply : Reply
-created_reply = record { status = 201; content = content.Plain; location = Some (codes "/notes/1"); allow = allow.Nothing; body = note }
-
--- a reply without content
-abbrev bare : ℕ → Reply
-bare status = record { status = status; content = content.Nothing; location = None; allow = allow.Nothing; body = [] }
+created_reply = located_reply 201 (codes "/notes/1") note
 
 created : reply_text created_reply false false ≡ codes "HTTP/1.1 201 Created\r\nVary: Accept\r\nContent-Type: application/vnd.api+json\r\nContent-Length: 92\r\nLocation: /notes/1\r\n\r\n" ++ note
 unfolding reply_text reason digits
@@ -35,28 +32,28 @@ unfolding reply_text reason digits
 fetched_head = refl
 
 -- a 204 has neither length nor body
-gone : reply_text (record (bare 204) { body = note }) false true ≡ codes "HTTP/1.1 204 No Content\r\nVary: Accept\r\nConnection: close\r\n\r\n"
+gone : reply_text (record (bare_reply 204) { body = note }) false true ≡ codes "HTTP/1.1 204 No Content\r\nVary: Accept\r\nConnection: close\r\n\r\n"
 unfolding reply_text reason digits
 gone = refl
 
-not_allowed : reply_text (record (bare 405) { content = content.Plain; allow = allow.Resource; body = codes "{\"errors\":[{\"code\":\"method-not-allowed\",\"status\":\"405\",\"title\":\"Method not allowed\"}]}" }) false false ≡ codes "HTTP/1.1 405 Method Not Allowed\r\nVary: Accept\r\nContent-Type: application/vnd.api+json\r\nContent-Length: 86\r\nAllow: GET, HEAD, PATCH, DELETE\r\n\r\n{\"errors\":[{\"code\":\"method-not-allowed\",\"status\":\"405\",\"title\":\"Method not allowed\"}]}"
+not_allowed : reply_text (record (bare_reply 405) { content = content.Plain; allow = allow.Resource; body = codes "{\"errors\":[{\"code\":\"method-not-allowed\",\"status\":\"405\",\"title\":\"Method not allowed\"}]}" }) false false ≡ codes "HTTP/1.1 405 Method Not Allowed\r\nVary: Accept\r\nContent-Type: application/vnd.api+json\r\nContent-Length: 86\r\nAllow: GET, HEAD, PATCH, DELETE\r\n\r\n{\"errors\":[{\"code\":\"method-not-allowed\",\"status\":\"405\",\"title\":\"Method not allowed\"}]}"
 unfolding reply_text reason digits
 not_allowed = refl
 
-page : reply_text (record (bare 200) { content = content.Page; body = codes "{\"data\":[],\"links\":{\"next\":null,\"prev\":null}}" }) false false ≡ codes "HTTP/1.1 200 OK\r\nVary: Accept\r\nContent-Type: application/vnd.api+json;profile=\"https://jsonapi.org/profiles/ethanresnick/cursor-pagination/\"\r\nContent-Length: 45\r\n\r\n{\"data\":[],\"links\":{\"next\":null,\"prev\":null}}"
+page : reply_text (record (bare_reply 200) { content = content.Page; body = codes "{\"data\":[],\"links\":{\"next\":null,\"prev\":null}}" }) false false ≡ codes "HTTP/1.1 200 OK\r\nVary: Accept\r\nContent-Type: application/vnd.api+json;profile=\"https://jsonapi.org/profiles/ethanresnick/cursor-pagination/\"\r\nContent-Length: 45\r\n\r\n{\"data\":[],\"links\":{\"next\":null,\"prev\":null}}"
 unfolding reply_text reason digits
 page = refl
 
-results : reply_text (record (bare 200) { content = content.Atomic; body = codes "{\"atomic:results\":[{}]}" }) false false ≡ codes "HTTP/1.1 200 OK\r\nVary: Accept\r\nContent-Type: application/vnd.api+json;ext=\"https://jsonapi.org/ext/atomic\"\r\nContent-Length: 23\r\n\r\n{\"atomic:results\":[{}]}"
+results : reply_text (record (bare_reply 200) { content = content.Atomic; body = codes "{\"atomic:results\":[{}]}" }) false false ≡ codes "HTTP/1.1 200 OK\r\nVary: Accept\r\nContent-Type: application/vnd.api+json;ext=\"https://jsonapi.org/ext/atomic\"\r\nContent-Length: 23\r\n\r\n{\"atomic:results\":[{}]}"
 unfolding reply_text reason digits
 results = refl
 
-refused : reply_text (record (bare 400) { content = content.Plain; body = codes "{\"errors\":[{\"code\":\"bad-message\",\"status\":\"400\",\"title\":\"Malformed message\"}]}" }) false true ≡ codes "HTTP/1.1 400 Bad Request\r\nVary: Accept\r\nContent-Type: application/vnd.api+json\r\nContent-Length: 78\r\nConnection: close\r\n\r\n{\"errors\":[{\"code\":\"bad-message\",\"status\":\"400\",\"title\":\"Malformed message\"}]}"
+refused : reply_text (record (bare_reply 400) { content = content.Plain; body = codes "{\"errors\":[{\"code\":\"bad-message\",\"status\":\"400\",\"title\":\"Malformed message\"}]}" }) false true ≡ codes "HTTP/1.1 400 Bad Request\r\nVary: Accept\r\nContent-Type: application/vnd.api+json\r\nContent-Length: 78\r\nConnection: close\r\n\r\n{\"errors\":[{\"code\":\"bad-message\",\"status\":\"400\",\"title\":\"Malformed message\"}]}"
 unfolding reply_text reason digits
 refused = refl
 
 -- another status has no reason, and the space before it stays
-other_status : reply_text (bare 299) false false ≡ codes "HTTP/1.1 299 \r\nVary: Accept\r\nContent-Length: 0\r\n\r\n"
+other_status : reply_text (bare_reply 299) false false ≡ codes "HTTP/1.1 299 \r\nVary: Accept\r\nContent-Length: 0\r\n\r\n"
 unfolding reply_text reason digits
 other_status = refl
 
@@ -75,19 +72,19 @@ all_methods : map methods (allow.Collection ∷ allow.Resource ∷ allow.Related
 all_methods = refl
 
 -- the fixed texts are those of empty replies that close
-unavailable : reply_text (bare 503) false true ≡ unavailable_text
+unavailable : reply_text (bare_reply 503) false true ≡ unavailable_text
 unfolding reply_text reason digits unavailable_text
 unavailable = refl
 
-worn : reply_text (bare 507) false true ≡ stop_text stop.Worn
+worn : reply_text (bare_reply 507) false true ≡ stop_text stop.Worn
 unfolding reply_text reason digits stop_text
 worn = refl
 
-store_fault : reply_text (bare 500) false true ≡ stop_text stop.Store
+store_fault : reply_text (bare_reply 500) false true ≡ stop_text stop.Store
 unfolding reply_text reason digits stop_text
 store_fault = refl
 
-feed_fault : reply_text (bare 502) false true ≡ stop_text stop.Feed
+feed_fault : reply_text (bare_reply 502) false true ≡ stop_text stop.Feed
 unfolding reply_text reason digits stop_text
 feed_fault = refl
 

@@ -9,8 +9,7 @@ use Rattle.std.proofs.lemmas.Str.{IsUtf8-from_ascii}
 use Rattle.httparse.specs.Grammar.{RequestHead, print_request, Field, IsField, crlf, lf, is_token_byte, is_uri_byte, is_value_byte, trim_ows}
 use Rattle.http_messages.specs.declared.messages.Message.{Message}
 use Rattle.http_messages.specs.declared.messages.Reply.{Reply}
-use Rattle.http_messages.specs.declared.messages.Content.TheVariants as content
-use Rattle.http_messages.specs.declared.messages.Allow.TheVariants as allow
+use Rattle.http_messages.specs.Replies.{plain_reply}
 use Rattle.http_messages.specs.declared.framings.Framing.TheVariants.{Empty}
 use Rattle.http_messages.specs.declared.framings.HeadFault.TheVariants.{TwoFramings}
 use Rattle.http_messages.specs.declared.framings.RefusedRest.TheVariants.{Head}
@@ -91,7 +90,7 @@ nothing = record {
 }
 
 abbrev not_found : Reply
-not_found = record { status = 404; content = content.Plain; location = None; allow = allow.Nothing; body = codes "{\"errors\":[{\"code\":\"not-found\",\"status\":\"404\",\"title\":\"Not found\"}]}" }
+not_found = plain_reply 404 (codes "{\"errors\":[{\"code\":\"not-found\",\"status\":\"404\",\"title\":\"Not found\"}]}")
 
 abbrev one_exchange : Exchange (ℕ × Reply)
 one_exchange = record { number = 1; message = get_message; reply = not_found; entries = (7, not_found) ∷ [] }

@@ -13,10 +13,10 @@ returns-in-Never-clause-line g c =
     let bad = c.in-Never.ensures c.reading.buffer (front_of CHUNK_LINE_LIMIT _ _ _ c.min.ensures c.as_slice-bytes.ensures) in
     (bad.0, inl bad.1)
 
-pub returns-then-bytes-ge1024-clause-line : goal.returns-then-bytes-ge1024-clause-line
-returns-then-bytes-ge1024-clause-line g c =
+pub returns-then-bytes-ge-CHUNK_LINE_LIMIT-clause-line : goal.returns-then-bytes-ge-CHUNK_LINE_LIMIT-clause-line
+returns-then-bytes-ge-CHUNK_LINE_LIMIT-clause-line g c =
     let may = c.in-Open.ensures c.reading.buffer (front_of CHUNK_LINE_LIMIT _ _ _ c.min.ensures c.as_slice-bytes.ensures) in
-    (may.none, inr (omega (arith, ap length c.as_slice-bytes.ensures, c.if-bytes-ge1024.true)))
+    (may.none, inr (omega (arith, ap length c.as_slice-bytes.ensures, c.if-bytes-ge-CHUNK_LINE_LIMIT.true)))
 
 pub returns-in-End-clause-adds : goal.returns-in-End-clause-adds
 returns-in-End-clause-adds g c = adds_then _ _ _ _ _ _ c.reading.invariant.adds c.fill.ensures.adds
@@ -24,7 +24,7 @@ returns-in-End-clause-adds g c = adds_then _ _ _ _ _ _ c.reading.invariant.adds 
 pub returns-in-End-clause-line : goal.returns-in-End-clause-line
 returns-in-End-clause-line g c =
     let end = c.in-End.ensures.end in
-    let short : length c.reading.buffer < CHUNK_LINE_LIMIT = omega (arith, ap length c.as_slice-bytes.ensures, c.if-bytes-ge1024.false) in
+    let short : length c.reading.buffer < CHUNK_LINE_LIMIT = omega (arith, ap length c.as_slice-bytes.ensures, c.if-bytes-ge-CHUNK_LINE_LIMIT.false) in
     let may = c.in-Open.ensures c.reading.buffer (front_of CHUNK_LINE_LIMIT _ _ _ c.min.ensures c.as_slice-bytes.ensures) in
     (omega (arith, ap length end.0, short), subst IsOpenLine (sym end.0) (open_line _ may short), end.1)
 
@@ -34,6 +34,6 @@ returns-in-Failed-clause-adds g c = adds_then _ _ _ _ _ _ c.reading.invariant.ad
 pub returns-in-Failed-clause-line : goal.returns-in-Failed-clause-line
 returns-in-Failed-clause-line g c =
     let end = c.in-Failed.ensures.end in
-    let short : length c.reading.buffer < CHUNK_LINE_LIMIT = omega (arith, ap length c.as_slice-bytes.ensures, c.if-bytes-ge1024.false) in
+    let short : length c.reading.buffer < CHUNK_LINE_LIMIT = omega (arith, ap length c.as_slice-bytes.ensures, c.if-bytes-ge-CHUNK_LINE_LIMIT.false) in
     let may = c.in-Open.ensures c.reading.buffer (front_of CHUNK_LINE_LIMIT _ _ _ c.min.ensures c.as_slice-bytes.ensures) in
     (omega (arith, ap length end.0, short), subst IsOpenLine (sym end.0) (open_line _ may short))

@@ -1,5 +1,6 @@
 use Rattle.std.proofs.Common.{◌≡◌, ◌-◌, length}
 use Rattle.http_framing.specs.Fills.{Adds}
+use Rattle.http_messages.specs.declared.limits.TheConstants.{CHUNK_LINE_LIMIT}
 use Rattle.http_bodies.proofs.lines.take_line.Given as goal
 
 abbrev pub invariant-reading : goal.invariant-reading
@@ -9,4 +10,4 @@ invariant-reading g l = record {
 }
 
 abbrev pub decreases-reading : goal.decreases-reading
-decreases-reading g l = 1024 - length l.buffer
+decreases-reading g l = CHUNK_LINE_LIMIT - length l.buffer

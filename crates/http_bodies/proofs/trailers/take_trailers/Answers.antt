@@ -23,7 +23,7 @@ pub returns-in-End-clause-trailers : goal.returns-in-End-clause-trailers
 returns-in-End-clause-trailers g c =
     let end = c.in-End.ensures.end in
     let same = end.0 ∙ c.judge_section.ensures.kept in
-    let short : length c.reading.buffer < TRAILER_LIMIT = omega (arith, ap length c.as_slice.ensures, ap length c.judge_section.ensures.kept, c.if-as_slice-ge16384.false) in
+    let short : length c.reading.buffer < TRAILER_LIMIT = omega (arith, ap length c.as_slice.ensures, ap length c.judge_section.ensures.kept, c.if-as_slice-ge-TRAILER_LIMIT.false) in
     (omega (arith, ap length same, short), subst IsOpenSection (sym same) (open_section _ c.in-Open.ensures.judged short), end.1)
 
 pub returns-in-Failed-clause-adds : goal.returns-in-Failed-clause-adds
@@ -33,5 +33,5 @@ pub returns-in-Failed-clause-trailers : goal.returns-in-Failed-clause-trailers
 returns-in-Failed-clause-trailers g c =
     let end = c.in-Failed.ensures.end in
     let same = end.0 ∙ c.judge_section.ensures.kept in
-    let short : length c.reading.buffer < TRAILER_LIMIT = omega (arith, ap length c.as_slice.ensures, ap length c.judge_section.ensures.kept, c.if-as_slice-ge16384.false) in
+    let short : length c.reading.buffer < TRAILER_LIMIT = omega (arith, ap length c.as_slice.ensures, ap length c.judge_section.ensures.kept, c.if-as_slice-ge-TRAILER_LIMIT.false) in
     (omega (arith, ap length same, short), subst IsOpenSection (sym same) (open_section _ c.in-Open.ensures.judged short))

@@ -11,15 +11,15 @@ returns-in-Open c = λ buffer same. subst IsOpen same c.in-Open.ensures
 pub returns-in-Never : goal.returns-in-Never
 returns-in-Never c = λ buffer same. subst NeverHasHead same c.in-Never.ensures
 
-pub returns-then-found-gt64 : goal.returns-then-found-gt64
-returns-then-found-gt64 c = λ buffer same.
+pub returns-then-found-gt-FIELD_LIMIT : goal.returns-then-found-gt-FIELD_LIMIT
+returns-then-found-gt-FIELD_LIMIT c = λ buffer same.
     let spans = c.judge_front.new.spans in
     let w : WholeHead (front buffer) spans c.in-Whole.found = subst (λ (b : List ℕ). WholeHead b spans c.in-Whole.found) same c.in-Whole.ensures in (
       w.head,
       _,
       whole_reads buffer spans c.in-Whole.found w,
       whole_fits buffer spans c.in-Whole.found w,
-      omega (arith, whole_count buffer spans c.in-Whole.found w, c.if-found-gt64.true),
+      omega (arith, whole_count buffer spans c.in-Whole.found w, c.if-found-gt-FIELD_LIMIT.true),
     )
 
 pub returns-in-Ok : goal.returns-in-Ok
@@ -30,6 +30,6 @@ returns-in-Ok c = λ buffer same.
       w.head,
       whole_reads buffer spans c.in-Whole.found w,
       whole_fits buffer spans c.in-Whole.found w,
-      omega (arith, whole_count buffer spans c.in-Whole.found w, c.if-found-gt64.false),
+      omega (arith, whole_count buffer spans c.in-Whole.found w, c.if-found-gt-FIELD_LIMIT.false),
       c.in-Ok.ensures w.head (subst (λ (b : List ℕ). IsRequestAt b spans c.in-Whole.found w.head) (sym same) w.at),
     )

@@ -22,7 +22,7 @@ returns-then-is_empty_lines-clause-takes g c =
       refl,
       end.1,
       (
-        omega (arith, ap length end.0, ap length c.as_slice.ensures, c.if-as_slice-ge16384.false),
+        omega (arith, ap length end.0, ap length c.as_slice.ensures, c.if-as_slice-ge-HEAD_LIMIT.false),
         subst IsEmptyLines c.as_slice-in-End.ensures (c.heads_are_decided.ensures.blank _ (sym c.is_empty_lines.ensures ∙ c.if-is_empty_lines.true)),
       ),
     )
@@ -30,7 +30,7 @@ returns-then-is_empty_lines-clause-takes g c =
 pub returns-in-End-clause-takes : goal.returns-in-End-clause-takes
 returns-in-End-clause-takes g c =
     let end = c.in-End.ensures.end in
-    let short : length c.reading.buffer < HEAD_LIMIT = omega (arith, ap length c.as_slice.ensures, ap length c.judge.ensures.kept, c.if-as_slice-ge16384.false) in
+    let short : length c.reading.buffer < HEAD_LIMIT = omega (arith, ap length c.as_slice.ensures, ap length c.judge.ensures.kept, c.if-as_slice-ge-HEAD_LIMIT.false) in
     takes_of _ _ _ _ _ _ (adds_on _ _ _ _ _ _ _ c.reading.invariant.adds c.judge.ensures.kept c.fill.ensures.adds) (
       refl,
       end.1,
@@ -42,7 +42,7 @@ returns-in-End-clause-takes g c =
 pub returns-in-Failed-clause-takes : goal.returns-in-Failed-clause-takes
 returns-in-Failed-clause-takes g c =
     let end = c.in-Failed.ensures.end in
-    let short : length c.reading.buffer < HEAD_LIMIT = omega (arith, ap length c.as_slice.ensures, ap length c.judge.ensures.kept, c.if-as_slice-ge16384.false) in
+    let short : length c.reading.buffer < HEAD_LIMIT = omega (arith, ap length c.as_slice.ensures, ap length c.judge.ensures.kept, c.if-as_slice-ge-HEAD_LIMIT.false) in
     takes_of _ _ _ _ _ _ (adds_on _ _ _ _ _ _ _ c.reading.invariant.adds c.judge.ensures.kept c.fill.ensures.adds) (
       refl,
       omega (arith, ap length end.0, ap length c.judge.ensures.kept, short),

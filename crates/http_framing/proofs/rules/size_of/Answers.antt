@@ -1,5 +1,6 @@
 use Rattle.std.proofs.Common.{◌+◌, ◌*◌, ◌∙◌, ap, ℕ, min, drop, arith}
 use Rattle.std.specs.Str.Parse.{digits_value_after}
+use Rattle.http_messages.specs.declared.limits.TheConstants.{BODY_LIMIT}
 use Rattle.http_framing.proofs.Sizes.{capped_on}
 use Rattle.http_framing.proofs.rules.size_of.Goals as goal
 
@@ -10,6 +11,6 @@ loop-digit-preserved c =
     record {
       low = omega (arith, c.min-size.ensures);
       rest =
-          ap (λ (k : ℕ). min (digits_value_after 10 k (drop (i + 1) c.args.digits.now)) 1048577) (c.min-size.ensures ∙ ap (λ (k : ℕ). min (size * 10 + k) 1048577) c.from.ensures)
+          ap (λ (k : ℕ). min (digits_value_after 10 k (drop (i + 1) c.args.digits.now)) (BODY_LIMIT + 1)) (c.min-size.ensures ∙ ap (λ (k : ℕ). min (size * 10 + k) (BODY_LIMIT + 1)) c.from.ensures)
           ∙ capped_on c.args.digits.now i size c.requires c.loop-digit-test.true ∙ c.loop-digit.invariant.rest;
     }
