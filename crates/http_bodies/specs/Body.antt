@@ -18,6 +18,12 @@ FitsLimit Empty = ⊤
 FitsLimit (Length n) = n ≤ BODY_LIMIT
 FitsLimit Chunked = ⊤
 
+-- what stays where memory was missing: of a body of a given length all that was seen; of chunks nothing is promised
+abbrev pub Stays : Framing → List ℕ → List ℕ → Type 0
+Stays Empty seen now = ⊥
+Stays (Length n) seen now = now ≡ seen
+Stays Chunked seen now = ⊤
+
 -- the answer, where these bytes were seen, and now these are left in the source and those in the buffer
 abbrev pub BodyOn : Framing → List ℕ → Option (List ℕ) → List ℕ → BodyEnd → Type 0
 BodyOn framing seen left now (body.Body b) = ReadsBody framing seen b now
@@ -25,7 +31,7 @@ BodyOn framing seen left now body.CutShort = IsAtEnd left × IsCutBody framing s
 BodyOn framing seen left now (body.BadChunk place) = (framing ≡ Chunked) × IsBadChunked seen place
 BodyOn framing seen left now body.TooLarge = (framing ≡ Chunked) × IsLargeChunked seen
 BodyOn framing seen left now body.ReadFault = IsCutBody framing seen
-BodyOn framing seen left now body.NoMemory = ⊤
+BodyOn framing seen left now body.NoMemory = Stays framing seen now
 
 -- what moved, and the answer
 pub record TakesBody (framing : Framing) (old now : List ℕ) (before after : SourceTold) (end : BodyEnd) : Type 0 where

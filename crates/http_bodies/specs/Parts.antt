@@ -36,3 +36,8 @@ pub record TakesPart (size : ℕ) (body body_now buffer buffer_now : List ℕ) (
 abbrev pub PartCause : SourceTold → SourceTold → PartEnd → Type 0
 PartCause before now part.Fault = Rose before.faults now.faults
 PartCause before now end = now.faults ≡ before.faults
+
+-- where memory was missing, there was room for less
+abbrev pub WasFull : ℕ → ℕ → PartEnd → Type 0
+WasFull capacity size part.NoMemory = capacity < size
+WasFull capacity size end = ⊤

@@ -1,6 +1,6 @@
-ghost use Rattle.std.specs.Prelude.{◌≡◌, ◌+◌, ◌≤◌, length, OnOk, OnErr};
+ghost use Rattle.std.specs.Prelude.{◌≡◌, ◌+◌, ◌<◌, ◌≤◌, length, vec_capacity, OnOk, OnErr};
 ghost use Rattle.http_messages.specs.declared.limits.TheConstants.{BODY_LIMIT};
-ghost use Rattle.http_bodies.specs.Parts.{Moves, TakesPart, PartCause};
+ghost use Rattle.http_bodies.specs.Parts.{Moves, TakesPart, PartCause, WasFull};
 
 use http_framing::{Buffer, Fill};
 use ident_rules::NoMemory;
@@ -24,6 +24,8 @@ fn move_some(buffer: &mut Buffer, body: &mut Vec<u8>, size: usize) -> Result<(),
     requires { length body.old.items ≤ size }
     ensures moves { OnOk result (Moves size buffer.old buffer.new body.old.items body.new.items) }
     ensures kept { OnErr result ((buffer.new ≡ buffer.old) × (body.new.items ≡ body.old.items)) }
+    ensures room { vec_capacity body.old ≤ vec_capacity body.new }
+    ensures full { OnErr result (vec_capacity body.old < size) }
 {
     let count = (size - body.len()).min(buffer.as_slice().len());
     body.extend_from_slice(&buffer.as_slice()[..count])?;
@@ -41,6 +43,8 @@ pub fn take_part<S: Source>(
     requires { length body.old.items + size ≤ BODY_LIMIT }
     ensures takes { TakesPart size body.old.items body.new.items buffer.old buffer.new (S.told source.old) (S.told source.new) result }
     ensures cause { PartCause (S.told source.old) (S.told source.new) result }
+    // Memory is missing only where the body had no room for them.
+    ensures full { WasFull (vec_capacity body.old) (length body.old.items + size) result }
 {
     let whole = body.len() + size;
     if move_some(buffer, body, whole).is_err() {

@@ -38,6 +38,7 @@ reading-init g c =
     record {
       moved = moved_move _ _ _ _ _ _ _ _ _ (moved_none _ _ _) moves;
       count = refl;
+      room = c.move_some.ensures.room;
       within = moves_within _ _ _ _ _ moves (omega arith);
       used = moves_used _ _ _ _ _ moves (omega arith);
     }
@@ -49,6 +50,7 @@ reading-preserved g c =
     record {
       moved = moved_move _ _ _ _ _ _ _ _ _ (moved_fill _ _ _ _ _ _ _ _ c.reading.invariant.moved c.fill.ensures.adds) moves;
       count = c.in-More.ensures.end.1 ∙ c.reading.invariant.count;
+      room = omega (arith, c.reading.invariant.room, c.move_some-in-reading.ensures.room);
       within = moves_within _ _ _ _ _ moves c.reading.invariant.within;
       used = moves_used _ _ _ _ _ moves c.reading.invariant.within;
     }
