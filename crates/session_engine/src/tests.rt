@@ -1,67 +1,26 @@
-//! Sessions over ends in memory, where memory is ample.
+//! Sessions over ends in memory, where memory is ample: each end that want of memory could come in place of, and faults in
+//! mid-stream.
+ghost use Rattle.std.specs.Prelude.{◌≡◌};
+ghost use Rattle.http_messages.specs.Replies.{bare_reply};
+
 use crate::{Driven, Limits, SessionEnd, drive_counted};
 use http_messages::{Allow, Content, Message, Reply};
 use ident_rules::{Bytes, List, NoMemory};
 use outer_ends::{MemorySink, MemorySource};
 use std::alloc::Global;
 use std::test::Fail;
-use task_forms::{Desk, DeskEnd, Fetch, Page, Plan, Planner, Query, Target, Task};
+use task_forms::{Desk, DeskEnd, Plan, Planner, ReplyForm, Task};
 
-/// Finds nothing.
-struct Finder;
-
-impl Planner for Finder {
-    ghost use Rattle.std.specs.Prelude.{[], None};
-    ghost use Rattle.http_messages.specs.declared.messages.Content.TheVariants as content;
-    ghost use Rattle.http_messages.specs.declared.messages.Allow.TheVariants as allow;
-    ghost use Rattle.task_forms.specs.declared.tasks.Plan.TheVariants.{Fixed};
-
-    ghost planned = { λ _ _. Fixed (record { status = 404; content = content.Nothing; location = None; allow = allow.Nothing; body = [] }) };
-
-    ghost fit = { λ _ _. ⊥ };
-
-    fn plan(&self, alloc: Global, _message: &Message) -> Result<Plan, NoMemory> {
-        Ok(Plan::Fixed(Reply {
-            status: 404,
-            content: Content::Nothing,
-            location: None,
-            allow: Allow::Nothing,
-            body: Bytes::from_vec(Vec::new(alloc)),
-        }))
-    }
-}
-
-/// Asks the desk for each message.
-struct Asker;
-
-impl Planner for Asker {
-    ghost use Rattle.std.specs.Prelude.{[], None, ⊤};
-    ghost use Rattle.resource_schema.specs.declared.targets.Target.TheVariants.{Operations};
-    ghost use Rattle.task_forms.specs.declared.tasks.Plan.TheVariants.{Run};
-    ghost use Rattle.task_forms.specs.declared.tasks.Task.TheVariants as task;
-
-    ghost planned = { λ _ _. Run (task.Fetch (record {
-      target = Operations;
-      query = record { pairs = []; include = None; fields = []; sort = []; page = record { size = 1; after = None; before = None } };
-    })) };
-
-    ghost fit = { λ _ _. ⊤ };
-
-    fn plan(&self, alloc: Global, _message: &Message) -> Result<Plan, NoMemory> {
-        Ok(Plan::Run(Task::Fetch(Fetch {
-            target: Target::Operations,
-            query: Query {
-                pairs: List::from_vec(Vec::new(alloc)),
-                include: None,
-                fields: List::from_vec(Vec::new(alloc)),
-                sort: List::from_vec(Vec::new(alloc)),
-                page: Page {
-                    size: 1,
-                    after: None,
-                    before: None,
-                },
-            },
-        })))
+/// A reply with no body.
+fn bare_reply(alloc: Global, status: u16) -> Reply
+    ensures { result ≡ bare_reply status }
+{
+    Reply {
+        status,
+        content: Content::Nothing,
+        location: None,
+        allow: Allow::Nothing,
+        body: Bytes::from_vec(Vec::new(alloc)),
     }
 }
 
@@ -69,26 +28,25 @@ impl Planner for Asker {
 struct Chooser;
 
 impl Planner for Chooser {
-    ghost use Rattle.std.specs.Prelude.{[], None, codes, if◌then◌else◌, ⊤};
+    ghost use Rattle.std.specs.Prelude.{[], codes, if◌then◌else◌, ⊤};
     ghost use Rattle.std.specs.Str.{bytes_eq};
-    ghost use Rattle.http_messages.specs.declared.messages.Content.TheVariants as content;
-    ghost use Rattle.http_messages.specs.declared.messages.Allow.TheVariants as allow;
-    ghost use Rattle.resource_schema.specs.declared.targets.Target.TheVariants.{Operations};
+    ghost use Rattle.http_messages.specs.Replies.{bare_reply};
     ghost use Rattle.task_forms.specs.declared.tasks.Plan.TheVariants.{Fixed, Run};
     ghost use Rattle.task_forms.specs.declared.tasks.Task.TheVariants as task;
+    ghost use Rattle.task_forms.specs.declared.tasks.ReplyForm.TheVariants as reply_form;
 
-    ghost planned = { λ _ m. if bytes_eq m.target (codes "/") then Run (task.Fetch (record {
-      target = Operations;
-      query = record { pairs = []; include = None; fields = []; sort = []; page = record { size = 1; after = None; before = None } };
-    })) else Fixed (record { status = 404; content = content.Nothing; location = None; allow = allow.Nothing; body = [] }) };
+    ghost planned = { λ _ m. if bytes_eq m.target (codes "/") then Run (task.Change [] reply_form.Empty) else Fixed (bare_reply 404) };
 
     ghost fit = { λ _ _. ⊤ };
 
     fn plan(&self, alloc: Global, message: &Message) -> Result<Plan, NoMemory> {
         if message.target.as_str() == "/" {
-            Asker.plan(alloc, message)
+            Ok(Plan::Run(Task::Change {
+                operations: List::from_vec(Vec::new(alloc)),
+                form: ReplyForm::Empty,
+            }))
         } else {
-            Finder.plan(alloc, message)
+            Ok(Plan::Fixed(bare_reply(alloc, 404)))
         }
     }
 }
@@ -102,9 +60,8 @@ struct Few {
 }
 
 impl Desk for Few {
-    ghost use Rattle.std.specs.Prelude.{[], None, true, ⊤};
-    ghost use Rattle.http_messages.specs.declared.messages.Content.TheVariants as content;
-    ghost use Rattle.http_messages.specs.declared.messages.Allow.TheVariants as allow;
+    ghost use Rattle.std.specs.Prelude.{None, true, ⊤};
+    ghost use Rattle.http_messages.specs.Replies.{bare_reply};
     ghost use Rattle.world_cells.specs.World.{empty_world};
 
     type Fixed = u8;
@@ -116,7 +73,7 @@ impl Desk for Few {
       empty = empty_world;
       valid = λ _. ⊤;
       fit = λ _. ⊤;
-      answer = λ _ _. record { status = 204; content = content.Nothing; location = None; allow = allow.Nothing; body = [] };
+      answer = λ _ _. bare_reply 204;
       effect = λ w _. w;
       reach = λ _ _ _. true;
     } };
@@ -134,169 +91,172 @@ impl Desk for Few {
             return Err(self.end);
         }
         self.answers -= 1;
-        Ok(Reply {
-            status: 204,
-            content: Content::Nothing,
-            location: None,
-            allow: Allow::Nothing,
-            body: Bytes::from_vec(Vec::new(self.alloc)),
-        })
+        Ok(bare_reply(self.alloc, 204))
     }
 }
 
-/// How a session over these bytes, read in pieces of 7, ended, how many messages it answered, and whether it wrote the text,
-/// over a desk that answers two tasks and then ends so, and a sink that fails in that call.
-fn serve<P: Planner>(
-    alloc: Global,
-    planner: &P,
-    bytes: &[u8],
+/// A session and what it comes to.
+#[derive(Clone, Copy)]
+struct Row {
+    /// The input.
+    bytes: &'static [u8],
+    /// How the desk ends, behind two tasks.
     desk_end: DeskEnd,
-    failing: u64,
-    text: &[u8],
-) -> Result<(Driven, bool), NoMemory> {
-    let mut source = MemorySource::new(Vec::from_slice(alloc, bytes)?, 7, Vec::new(alloc));
-    let mut sink = MemorySink::new(alloc, vec![in alloc; failing]?);
+    /// The number of the read that fails, and of the write.
+    failing: (u64, u64),
+    end: SessionEnd,
+    answered: u64,
+    entries: u64,
+    /// What is written.
+    text: &'static [u8],
+}
+
+/// A row of one message or of none, with no fault and no task.
+fn plain(bytes: &'static [u8], end: SessionEnd, answered: u64, text: &'static [u8]) -> Row {
+    Row {
+        bytes,
+        desk_end: DeskEnd::Worn,
+        failing: (0, 0),
+        end,
+        answered,
+        entries: 0,
+        text,
+    }
+}
+
+/// Whether the session over that input, read in pieces of 7, comes to it.
+fn comes_so(alloc: Global, row: &Row) -> Result<bool, NoMemory> {
+    let reads = Vec::from_slice(alloc, &[row.failing.0])?;
+    let writes = Vec::from_slice(alloc, &[row.failing.1])?;
+    let mut source = MemorySource::new(Vec::from_slice(alloc, row.bytes)?, 7, reads);
+    let mut sink = MemorySink::new(alloc, writes);
     let mut desk = Few {
         alloc,
         answers: 2,
-        end: desk_end,
+        end: row.desk_end,
     };
-    let driven = drive_counted(
-        alloc,
-        Limits::standard(),
-        planner,
-        &mut source,
-        &mut sink,
-        &mut desk,
-    );
-    Ok((driven, sink.written() == text))
+    let limits = Limits::standard();
+    let driven = drive_counted(alloc, limits, &Chooser, &mut source, &mut sink, &mut desk);
+    let want = Driven {
+        end: row.end,
+        answered: row.answered,
+        entries: row.entries,
+    };
+    Ok(driven == want && sink.written() == row.text)
 }
 
-const NOT_FOUND: &[u8] = b"HTTP/1.1 404 Not Found\r\nVary: Accept\r\nContent-Length: 0\r\n\r\n";
+/// The number of the first row that does not come so.
+fn first_wrong(alloc: Global, rows: &[Row]) -> Result<Option<usize>, NoMemory> {
+    for (number, row) in rows.iter().enumerate() {
+        if !comes_so(alloc, row)? {
+            return Ok(Some(number));
+        }
+    }
+    Ok(None)
+}
 
 const MALFORMED: &[u8] =
     b"HTTP/1.1 400 Bad Request\r\nVary: Accept\r\nContent-Type: application/vnd.api+json\r\nContent-Length: 78\r\nConnection: close\r\n\r\n{\"errors\":[{\"code\":\"bad-message\",\"status\":\"400\",\"title\":\"Malformed message\"}]}";
 
-// A row: the bytes, how the session ends, the messages that it answers and the text that it writes.
-#[test]
-fn serves_fixed_replies(rt: HostRuntime) -> Result<(), Fail> {
-    let rows: [(&[u8], SessionEnd, u64, &[u8]); 8] = [
-        (b"", SessionEnd::Closed, 0, b""),
-        (
-            b"GET /x HTTP/1.1\r\nHost: h\r\n\r\n",
-            SessionEnd::Closed,
-            1,
-            NOT_FOUND,
-        ),
-        (
-            b"GET /x HTTP/1.1\r\nHost: h\r\n\r\nGET /y HTTP/1.0\r\n\r\nGET /z HTTP/1.0\r\n\r\n",
-            SessionEnd::Closed,
-            2,
-            b"HTTP/1.1 404 Not Found\r\nVary: Accept\r\nContent-Length: 0\r\n\r\nHTTP/1.1 404 Not Found\r\nVary: Accept\r\nContent-Length: 0\r\nConnection: close\r\n\r\n",
-        ),
-        (
-            b"POST /x HTTP/1.1\r\nHost: h\r\nExpect: 100-continue\r\nContent-Length: 3\r\n\r\nabc",
-            SessionEnd::Closed,
-            1,
-            b"HTTP/1.1 100 Continue\r\n\r\nHTTP/1.1 404 Not Found\r\nVary: Accept\r\nContent-Length: 0\r\n\r\n",
-        ),
-        (
-            b"POST /x HTTP/1.1\r\nHost: h\r\nTransfer-Encoding: chunked\r\n\r\n3\r\nabc\r\n0\r\n\r\n",
-            SessionEnd::Closed,
-            1,
-            NOT_FOUND,
-        ),
-        (
+fn fixed_rows() -> [Row; 6] {
+    [
+        plain(b"", SessionEnd::Closed, 0, b""),
+        plain(b"GET /x HT", SessionEnd::CutShort, 0, b""),
+        plain(b"G(T", SessionEnd::Refused(400), 0, MALFORMED),
+        plain(
             b"POST /x HTTP/1.1\r\nHost: h\r\nTransfer-Encoding: chunked\r\n\r\nx",
             SessionEnd::Refused(400),
             0,
             MALFORMED,
         ),
-        (b"G(T", SessionEnd::Refused(400), 0, MALFORMED),
-        (b"GET /x HT", SessionEnd::CutShort, 0, b""),
-    ];
-    for (bytes, end, answered, text) in rows {
-        assert_eq!(rt;
-            serve(rt.alloc(), &Finder, bytes, DeskEnd::Worn, 0, text),
-            Ok((Driven { end, answered }, true))
-        );
-    }
+        plain(
+            b"GET /x HTTP/1.1\r\nHost: h\r\n\r\nGET /y HTTP/1.0\r\n\r\nGET /z HTTP/1.0\r\n\r\n",
+            SessionEnd::Closed,
+            2,
+            b"HTTP/1.1 404 Not Found\r\nVary: Accept\r\nContent-Length: 0\r\n\r\nHTTP/1.1 404 Not Found\r\nVary: Accept\r\nContent-Length: 0\r\nConnection: close\r\n\r\n",
+        ),
+        plain(
+            b"POST /x HTTP/1.1\r\nHost: h\r\nExpect: 100-continue\r\nContent-Length: 3\r\n\r\nabc",
+            SessionEnd::Closed,
+            1,
+            b"HTTP/1.1 100 Continue\r\n\r\nHTTP/1.1 404 Not Found\r\nVary: Accept\r\nContent-Length: 0\r\n\r\n",
+        ),
+    ]
+}
+
+#[test]
+fn serves_fixed_replies(rt: HostRuntime) -> Result<(), Fail> {
+    assert_eq!(rt; first_wrong(rt.alloc(), &fixed_rows())?, None);
     Ok(())
+}
+
+const THREE_TASKS: &[u8] =
+    b"GET / HTTP/1.1\r\nHost: h\r\n\r\nGET / HTTP/1.1\r\nHost: h\r\n\r\nGET / HTTP/1.1\r\nHost: h\r\n\r\n";
+
+const MIX: &[u8] =
+    b"GET /x HTTP/1.1\r\nHost: h\r\n\r\nGET / HTTP/1.1\r\nHost: h\r\n\r\nGET / HTTP/1.1\r\nHost: h\r\nConnection: close\r\n\r\nGET / HTTP/1.1\r\nHost: h\r\n\r\n";
+
+fn task_rows() -> [Row; 6] {
+    [
+        Row {
+            bytes: THREE_TASKS,
+            desk_end: DeskEnd::Worn,
+            failing: (0, 0),
+            end: SessionEnd::Worn,
+            answered: 2,
+            entries: 2,
+            text: b"HTTP/1.1 204 No Content\r\nVary: Accept\r\n\r\nHTTP/1.1 204 No Content\r\nVary: Accept\r\n\r\nHTTP/1.1 507 Insufficient Storage\r\nVary: Accept\r\nContent-Length: 0\r\nConnection: close\r\n\r\n",
+        },
+        Row {
+            bytes: THREE_TASKS,
+            desk_end: DeskEnd::NoMemory,
+            failing: (0, 0),
+            end: SessionEnd::NoMemory,
+            answered: 2,
+            entries: 2,
+            text: b"HTTP/1.1 204 No Content\r\nVary: Accept\r\n\r\nHTTP/1.1 204 No Content\r\nVary: Accept\r\n\r\nHTTP/1.1 503 Service Unavailable\r\nVary: Accept\r\nContent-Length: 0\r\nConnection: close\r\n\r\n",
+        },
+        Row {
+            bytes: MIX,
+            desk_end: DeskEnd::Worn,
+            failing: (0, 0),
+            end: SessionEnd::Closed,
+            answered: 3,
+            entries: 2,
+            text: b"HTTP/1.1 404 Not Found\r\nVary: Accept\r\nContent-Length: 0\r\n\r\nHTTP/1.1 204 No Content\r\nVary: Accept\r\n\r\nHTTP/1.1 204 No Content\r\nVary: Accept\r\nConnection: close\r\n\r\n",
+        },
+        Row {
+            bytes: MIX,
+            desk_end: DeskEnd::Worn,
+            failing: (0, 1),
+            end: SessionEnd::WriteFault,
+            answered: 0,
+            entries: 0,
+            text: b"",
+        },
+        Row {
+            bytes: MIX,
+            desk_end: DeskEnd::Worn,
+            failing: (0, 2),
+            end: SessionEnd::WriteFault,
+            answered: 1,
+            entries: 1,
+            text: b"HTTP/1.1 404 Not Found\r\nVary: Accept\r\nContent-Length: 0\r\n\r\n",
+        },
+        Row {
+            bytes: MIX,
+            desk_end: DeskEnd::Worn,
+            failing: (5, 0),
+            end: SessionEnd::ReadFault,
+            answered: 1,
+            entries: 0,
+            text: b"HTTP/1.1 404 Not Found\r\nVary: Accept\r\nContent-Length: 0\r\n\r\n",
+        },
+    ]
 }
 
 #[test]
 fn serves_tasks(rt: HostRuntime) -> Result<(), Fail> {
-    let rows: [(&[u8], SessionEnd, u64, &[u8]); 2] = [
-        (
-            b"GET /x HTTP/1.1\r\nHost: h\r\n\r\n",
-            SessionEnd::Closed,
-            1,
-            b"HTTP/1.1 204 No Content\r\nVary: Accept\r\n\r\n",
-        ),
-        (
-            b"GET / HTTP/1.1\r\nHost: h\r\n\r\nGET / HTTP/1.1\r\nHost: h\r\n\r\nGET / HTTP/1.1\r\nHost: h\r\n\r\n",
-            SessionEnd::Worn,
-            2,
-            b"HTTP/1.1 204 No Content\r\nVary: Accept\r\n\r\nHTTP/1.1 204 No Content\r\nVary: Accept\r\n\r\nHTTP/1.1 507 Insufficient Storage\r\nVary: Accept\r\nContent-Length: 0\r\nConnection: close\r\n\r\n",
-        ),
-    ];
-    for (bytes, end, answered, text) in rows {
-        assert_eq!(rt;
-            serve(rt.alloc(), &Asker, bytes, DeskEnd::Worn, 0, text),
-            Ok((Driven { end, answered }, true))
-        );
-    }
-    Ok(())
-}
-
-const MIX: &[u8] =
-    b"GET /x HTTP/1.1\r\nHost: h\r\n\r\nGET / HTTP/1.1\r\nHost: h\r\n\r\nGET /y HTTP/1.1\r\nHost: h\r\n\r\nGET / HTTP/1.1\r\nHost: h\r\nConnection: close\r\n\r\nGET / HTTP/1.1\r\nHost: h\r\n\r\n";
-
-const FOUND_AND_DONE: &[u8] =
-    b"HTTP/1.1 404 Not Found\r\nVary: Accept\r\nContent-Length: 0\r\n\r\nHTTP/1.1 204 No Content\r\nVary: Accept\r\n\r\n";
-
-// A row: the bytes, how the desk ends, the call of the sink that fails, how the session ends, the messages that it answers and
-// the text that it writes.
-#[test]
-fn serves_a_mix(rt: HostRuntime) -> Result<(), Fail> {
-    let asked =
-        b"GET / HTTP/1.1\r\nHost: h\r\n\r\nGET / HTTP/1.1\r\nHost: h\r\n\r\nGET / HTTP/1.1\r\nHost: h\r\n\r\n";
-    let expecting =
-        b"POST /x HTTP/1.1\r\nHost: h\r\nExpect: 100-continue\r\nContent-Length: 3\r\n\r\nabc";
-    let rows: [(&[u8], DeskEnd, u64, SessionEnd, u64, &[u8]); 6] = [
-        (
-            MIX,
-            DeskEnd::Worn,
-            0,
-            SessionEnd::Closed,
-            4,
-            b"HTTP/1.1 404 Not Found\r\nVary: Accept\r\nContent-Length: 0\r\n\r\nHTTP/1.1 204 No Content\r\nVary: Accept\r\n\r\nHTTP/1.1 404 Not Found\r\nVary: Accept\r\nContent-Length: 0\r\n\r\nHTTP/1.1 204 No Content\r\nVary: Accept\r\nConnection: close\r\n\r\n",
-        ),
-        (
-            asked,
-            DeskEnd::NoMemory,
-            0,
-            SessionEnd::NoMemory,
-            2,
-            b"HTTP/1.1 204 No Content\r\nVary: Accept\r\n\r\nHTTP/1.1 204 No Content\r\nVary: Accept\r\n\r\nHTTP/1.1 503 Service Unavailable\r\nVary: Accept\r\nContent-Length: 0\r\nConnection: close\r\n\r\n",
-        ),
-        (MIX, DeskEnd::Worn, 1, SessionEnd::WriteFault, 0, b""),
-        (MIX, DeskEnd::Worn, 2, SessionEnd::WriteFault, 1, NOT_FOUND),
-        (
-            MIX,
-            DeskEnd::Worn,
-            3,
-            SessionEnd::WriteFault,
-            2,
-            FOUND_AND_DONE,
-        ),
-        (expecting, DeskEnd::Worn, 1, SessionEnd::WriteFault, 0, b""),
-    ];
-    for (bytes, desk_end, failing, end, answered, text) in rows {
-        assert_eq!(rt;
-            serve(rt.alloc(), &Chooser, bytes, desk_end, failing, text),
-            Ok((Driven { end, answered }, true))
-        );
-    }
+    assert_eq!(rt; first_wrong(rt.alloc(), &task_rows())?, None);
     Ok(())
 }
