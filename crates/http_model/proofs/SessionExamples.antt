@@ -1,6 +1,6 @@
 -- A few inputs with their messages, refusals and sessions.
 use Rattle.std.proofs.Common.{◌≡◌, ℕ, ◌<◌, true, false, List, [], ◌∷◌, ◌++◌, length, refl, arith, inl, inr}
-use Rattle.std.specs.Prelude.{codes, None, All, IsFalse}
+use Rattle.std.specs.Prelude.{codes, All, IsFalse}
 use Rattle.std.specs.Fmt.{digits}
 use Rattle.std.specs.List.{list_all}
 use Rattle.std.proofs.lemmas.List.Elements.{All-nil, All-cons}

@@ -1,7 +1,6 @@
 -- A message is read in one way, and the tasks of the entries that a connection made are the first of the tasks of its messages.
 use Rattle.std.proofs.Common.{◌≡◌, ℕ, ◌+◌, ◌-◌, Bool, true, false, List, [], ◌∷◌, ◌++◌, map, refl, sym, ap, subst, ◌∙◌, append_assoc, append-nil, inl, inr}
-use Rattle.std.specs.Prelude.{⊤, ◌⊎◌, ◌||◌, IsTrue, IsFalse, All}
-use Rattle.std.specs.List.{flat_map}
+use Rattle.std.specs.Prelude.{⊤, ◌⊎◌, ◌||◌, IsFalse}
 use Rattle.std.proofs.lemmas.Bool.{false≢true}
 use Rattle.std.proofs.lemmas.List.{map-append}
 use Rattle.std.proofs.lemmas.List.Concat.{flat_map-cons}
@@ -81,9 +80,11 @@ module _ {T E : Type 0} (plans : Plans T E) where
       let own = answer_tasks (plans.plan x.message) x.reply x.entries run.3 ∙ ap (λ n. task_or_none (plans.plan n)) same.0 in
       let number : x.number ≡ i + 1 = run.2 in
       let later = runs_tasks one (y ∷ ys) (i + 1) reads.0 j rest ms r (subst (λ n. Runs plans n reads.0 (y ∷ ys) j rest) number (subst (λ b. Runs plans x.number b (y ∷ ys) j rest) same.1 run.4)) but.1 reads.3
-          (longer longest (subst (λ n. closes m n ≡ false) number (subst (λ n. closes n x.number ≡ false) same.0 but.0))) in
-      (later.0, flat_map-cons (λ n. task_or_none (plans.plan n)) m ms ∙ (both (sym own) later.1 ∙ (sym (append_assoc (map plans.task_of x.entries) (map plans.task_of (entries_of (y ∷ ys))) later.0)
-      ∙ ap (λ l. l ++ later.0) (sym (map-append plans.task_of x.entries (entries_of (y ∷ ys))) ∙ ap (map plans.task_of) (sym (flat_map-cons (λ (z : Exchange E). z.entries) x (y ∷ ys)))))))
+      (longer longest (subst (λ n. closes m n ≡ false) number (subst (λ n. closes n x.number ≡ false) same.0 but.0))) in (
+        later.0,
+        flat_map-cons (λ n. task_or_none (plans.plan n)) m ms ∙ (both (sym own) later.1 ∙ (sym (append_assoc (map plans.task_of x.entries) (map plans.task_of (entries_of (y ∷ ys))) later.0)
+            ∙ ap (λ l. l ++ later.0) (sym (map-append plans.task_of x.entries (entries_of (y ∷ ys))) ∙ ap (map plans.task_of) (sym (flat_map-cons (λ (z : Exchange E). z.entries) x (y ∷ ys)))))),
+      )
     where
       both : {a c b d : List T} → a ≡ c → b ≡ d → a ++ b ≡ c ++ d
       both p q = λ k. p k ++ q k

@@ -7,7 +7,7 @@ ghost use Rattle.http_model.specs.Requests.{ReadsMessage, AreRequests};
 ghost use Rattle.http_model.specs.Rests.{HeadKind, IsHeadKind, RestKind, IsRest};
 ghost use Rattle.http_model.specs.Exchanges.{Plans, Exchange, Runs, IsWhole};
 ghost use Rattle.http_model.specs.Laws.{HeadsDecided, ReadStays, NoMessageBegins};
-ghost use Rattle.http_model.specs.SessionLaws.{ServedAreRequests, FailedAreRequests, ServedIsOne, EntriesAreTasks, MemoryRunsOut};
+ghost use Rattle.http_model.specs.SessionLaws.{WholeAreRequests, ServedAreRequests, FailedAreRequests, ServedIsOne, EntriesAreTasks, MemoryRunsOut};
 
 // ---- what stands in some bytes is one thing
 
@@ -78,8 +78,7 @@ pub fn runs_stay<T, E>()
 /// The exchanges of a session are the messages of its bytes, and count them.
 pub fn exchanges_are_requests<T, E>()
     // Where no further message is answered they are all of the messages.
-    ensures all { (plans : Plans T E) (i : ℕ) (bytes : List ℕ) (xs : List (Exchange E)) (j : ℕ) (rest : List ℕ)
-        → Runs plans i bytes xs j rest → IsWhole xs rest → AreRequests i bytes (map (λ x. x.message) xs) rest }
+    ensures all { WholeAreRequests T E }
     // So they are where the input decides the end,
     ensures served { ServedAreRequests T E }
     // and so they are of the bytes that were taken where the source failed.

@@ -34,7 +34,8 @@ use Rattle.session_engine.specs.declared.sessions.Next.{Next}
 use Rattle.session_engine.specs.declared.sessions.Next.TheVariants as next
 use Rattle.session_engine.specs.declared.sessions.Step.{Step}
 use Rattle.session_engine.specs.declared.sessions.Step.TheVariants as step
-use Rattle.session_engine.specs.Plans.{TaskPlans}
+use Rattle.task_forms.specs.declared.tasks.Plan.{Plan}
+use Rattle.session_engine.specs.Plans.{TaskPlans, plans_of}
 use Rattle.session_engine.specs.States.{SessionState}
 
 -- ---- one message
@@ -264,16 +265,16 @@ Standing = ℕ → World → List Entry → List Entry → Type 0
 
 -- for any lists for which the desk stood: it stands for lists that begin with them, by as many entries of its own as are told,
 -- and what was written is what the messages of the input are to be sent
-abbrev pub ServesAll : TaskPlans → Standing → Standing → SourceTold → SourceTold → SinkTold → SinkTold → Driven → Type 0
-ServesAll plans old new source source_now sink sink_now d =
+abbrev pub ServesAll : (Message → Plan) → Standing → Standing → SourceTold → SourceTold → SinkTold → SinkTold → Driven → Type 0
+ServesAll planned old new source source_now sink sink_now d =
     (first : ℕ) (w : World) (seen mine : List Entry) → old first w seen mine
-    → Serves plans (Counted (new first w) (length mine + d.entries)) first seen mine source source_now sink sink_now d.answered d.end
+    → Serves (plans_of planned) (Counted (new first w) (length mine + d.entries)) first seen mine source source_now sink sink_now d.answered d.end
 
 -- the same of the end alone
-abbrev pub ServesEnd : TaskPlans → Standing → Standing → SourceTold → SourceTold → SinkTold → SinkTold → SessionEnd → Type 0
-ServesEnd plans old new source source_now sink sink_now end =
+abbrev pub ServesEnd : (Message → Plan) → Standing → Standing → SourceTold → SourceTold → SinkTold → SinkTold → SessionEnd → Type 0
+ServesEnd planned old new source source_now sink sink_now end =
     (first : ℕ) (w : World) (seen mine : List Entry) → old first w seen mine
-    → (answered : ℕ) × Serves plans (new first w) first seen mine source source_now sink sink_now answered end
+    → (answered : ℕ) × Serves (plans_of planned) (new first w) first seen mine source source_now sink sink_now answered end
 
 -- what is told where the loop over a session has left it so
 abbrev pub driven_by : SessionState → Ending → Driven

@@ -1,6 +1,5 @@
 ghost use Rattle.std.specs.Prelude.{◌≡◌, ◌≤◌, [], None};
 ghost use Rattle.task_forms.specs.declared.tasks.Task.{Task as StoreTask};
-ghost use Rattle.session_engine.specs.Plans.{plans_of};
 ghost use Rattle.session_engine.specs.Seen.{ServesAll, ServesEnd, driven_by, EndCause};
 ghost use Rattle.session_engine.specs.Finishing.{Finishes, FinishCause, Stops, StopCause};
 ghost use Rattle.http_messages.specs.declared.limits.TheConstants.{MESSAGE_LIMIT};
@@ -72,7 +71,7 @@ fn serve<S: Source, K: Sink, P: Planner, D: Desk>(
     requires fit { (t : StoreTask) → P.fit planner.now t → (D.meaning (D.fixed desk.old)).fit t }
     ensures fixed { D.fixed desk.new ≡ D.fixed desk.old }
     ensures few { result.entries ≤ MESSAGE_LIMIT }
-    ensures serves { ServesAll (plans_of (P.planned planner.now)) (D.stands desk.old) (D.stands desk.new) (S.told source.old) (S.told source.new) (K.told sink.old) (K.told sink.new) (driven_by session.new result) }
+    ensures serves { ServesAll (P.planned planner.now) (D.stands desk.old) (D.stands desk.new) (S.told source.old) (S.told source.new) (K.told sink.old) (K.told sink.new) (driven_by session.new result) }
     ensures cause { EndCause (S.told source.old) (S.told source.new) (K.told sink.old) (K.told sink.new) result.end }
 {
     read_stays();
@@ -120,7 +119,7 @@ pub fn drive_counted<S: Source, K: Sink, P: Planner, D: Desk>(
     ensures few { (result.answered ≤ MESSAGE_LIMIT) × (result.entries ≤ MESSAGE_LIMIT) }
     // For any lists for which the desk stood: it stands for lists that begin with them, and what was written is what the
     // messages of the input are to be sent, by the entries that joined, which are as many as is said.
-    ensures serves { ServesAll (plans_of (P.planned planner.now)) (D.stands desk.old) (D.stands desk.new) (S.told source.old) (S.told source.new) (K.told sink.old) (K.told sink.new) result }
+    ensures serves { ServesAll (P.planned planner.now) (D.stands desk.old) (D.stands desk.new) (S.told source.old) (S.told source.new) (K.told sink.old) (K.told sink.new) result }
     ensures cause { EndCause (S.told source.old) (S.told source.new) (K.told sink.old) (K.told sink.new) result.end }
 {
     read_stays();
@@ -151,7 +150,7 @@ pub fn drive<S: Source, K: Sink, P: Planner, D: Desk>(
 ) -> SessionEnd
     requires fit { (t : StoreTask) → P.fit planner.now t → (D.meaning (D.fixed desk.old)).fit t }
     ensures fixed { D.fixed desk.new ≡ D.fixed desk.old }
-    ensures serves { ServesEnd (plans_of (P.planned planner.now)) (D.stands desk.old) (D.stands desk.new) (S.told source.old) (S.told source.new) (K.told sink.old) (K.told sink.new) result }
+    ensures serves { ServesEnd (P.planned planner.now) (D.stands desk.old) (D.stands desk.new) (S.told source.old) (S.told source.new) (K.told sink.old) (K.told sink.new) result }
     ensures cause { EndCause (S.told source.old) (S.told source.new) (K.told sink.old) (K.told sink.new) result }
 {
     drive_counted(alloc, limits, planner, source, sink, desk).end
