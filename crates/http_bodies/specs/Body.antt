@@ -13,10 +13,10 @@ use Rattle.http_bodies.specs.declared.bodies.BodyEnd.TheVariants as body
 use Rattle.http_messages.specs.declared.limits.TheConstants.{BODY_LIMIT}
 
 -- a length is within the limit (of this project)
-abbrev pub FitsLimit : Framing → Type 0
-FitsLimit Empty = ⊤
-FitsLimit (Length n) = n ≤ BODY_LIMIT
-FitsLimit Chunked = ⊤
+abbrev pub FitsBodyLimit : Framing → Type 0
+FitsBodyLimit Empty = ⊤
+FitsBodyLimit (Length n) = n ≤ BODY_LIMIT
+FitsBodyLimit Chunked = ⊤
 
 -- what stays where memory was missing: of a body of a given length all that was seen; of chunks nothing is promised
 abbrev pub Stays : Framing → List ℕ → List ℕ → Type 0

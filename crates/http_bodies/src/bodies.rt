@@ -1,7 +1,7 @@
 ghost use Rattle.std.specs.Prelude.{◌≡◌, ◌≤◌, ◌++◌, IfSome};
 ghost use Rattle.http_messages.specs.declared.framings.Framing.TheVariants.{Length};
 ghost use Rattle.http_messages.specs.declared.limits.TheConstants.{BODY_LIMIT};
-ghost use Rattle.http_bodies.specs.Body.{FitsLimit, TakesBody, BodyCause, BodyOfRest};
+ghost use Rattle.http_bodies.specs.Body.{FitsBodyLimit, TakesBody, BodyCause, BodyOfRest};
 
 use crate::chunks::take_chunked;
 use crate::parts::{PartEnd, take_part};
@@ -53,7 +53,7 @@ fn take_framed<S: Source>(
     buffer: &mut Buffer,
     framing: Framing,
 ) -> BodyEnd
-    requires { FitsLimit framing }
+    requires { FitsBodyLimit framing }
     ensures takes { TakesBody framing buffer.old buffer.new (S.told source.old) (S.told source.new) result }
     ensures cause { BodyCause (S.told source.old) (S.told source.new) result }
 {
@@ -72,7 +72,7 @@ pub fn take_body<S: Source>(
     buffer: &mut Buffer,
     framing: Framing,
 ) -> BodyEnd
-    requires { FitsLimit framing }
+    requires { FitsBodyLimit framing }
     // Of any source: what moved, and the answer by the bytes that were seen.
     ensures takes { TakesBody framing buffer.old buffer.new (S.told source.old) (S.told source.new) result }
     // Of a source that tells what is left: the answer by all of it, however it was cut.

@@ -1,7 +1,7 @@
 //! What no clause says: pieces of one byte, faults in mid-stream, and that ample memory suffices, also for bodies that are
 //! longer than a buffer.
 ghost use Rattle.std.specs.Prelude.{◌<◌};
-ghost use Rattle.http_bodies.specs.Body.{FitsLimit};
+ghost use Rattle.http_bodies.specs.Body.{FitsBodyLimit};
 
 use crate::{BodyEnd, take_body};
 use http_framing::Buffer;
@@ -21,7 +21,7 @@ fn take(
     fails: u64,
 ) -> Result<(BodyEnd, usize), NoMemory>
     requires piece { 0 < piece }
-    requires framing { FitsLimit framing }
+    requires framing { FitsBodyLimit framing }
 {
     let failing = Vec::from_slice(alloc, &[fails])?;
     let mut source = MemorySource::new(Vec::from_slice(alloc, bytes)?, piece, failing);

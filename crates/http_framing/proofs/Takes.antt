@@ -5,7 +5,7 @@ use Rattle.std.specs.Prelude.{IfSome, None, Some}
 use Rattle.std.specs.Io.KnownBytes.{Consumes}
 use Rattle.outer_ends.specs.Told.{SourceTold}
 use Rattle.http_model.specs.Heads.{front, IsOpen}
-use Rattle.http_model.specs.Rests.{IsBetween}
+use Rattle.http_model.specs.Rests.{IsBetweenMessages}
 use Rattle.http_model.specs.Laws.{ReadStays}
 use Rattle.http_framing.specs.declared.heads.HeadEnd.{HeadEnd}
 use Rattle.http_framing.specs.declared.heads.HeadEnd.TheVariants as head
@@ -38,7 +38,7 @@ rest_of_seen stays seen y now head.TooLarge v = (omega (arith, length-append see
 rest_of_seen stays seen y now head.TooMany v = (v.1, v.2 ++ y, stays.head seen y v.1 v.2 v.3, v.4, v.5, refl, refl)
 rest_of_seen stays seen y now head.End v =
     let same : seen ≡ seen ++ y = sym (append-nil seen) ∙ ap (λ (l : List ℕ). seen ++ l) (sym v.1) in
-    subst IsBetween same v.2
+    subst IsBetweenMessages same v.2
 rest_of_seen stays seen y now head.CutShort v =
     let same : seen ≡ seen ++ y = sym (append-nil seen) ∙ ap (λ (l : List ℕ). seen ++ l) (sym v.1) in
     subst (λ (l : List ℕ). HeadOfRest l now (Some y) head.CutShort) same (v.2, v.3, v.4)

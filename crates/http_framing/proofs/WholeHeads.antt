@@ -6,7 +6,7 @@ use Rattle.httparse.specs.Spans.{header_bytes, name_and_value}
 use Rattle.httparse.specs.declared.spans.HeaderSpan.{HeaderSpan}
 use Rattle.httparse.specs.declared.spans.RequestSpans.{RequestSpans}
 use Rattle.http_model.specs.Heads.{ReadsHead, front}
-use Rattle.http_model.specs.Messages.{FitsLimit}
+use Rattle.http_model.specs.Messages.{FitsHeadLimit}
 use Rattle.http_framing.specs.FillLaws.{whole_front}
 use Rattle.http_framing.specs.Fronts.{WholeHead}
 use Rattle.http_messages.specs.declared.limits.TheConstants.{HEAD_LIMIT}
@@ -15,7 +15,7 @@ pub whole_reads : (buf : List ℕ) (headers : List HeaderSpan) (spans : RequestS
 whole_reads buf headers spans w =
     record { reads = (w.at.reads.0, whole_front HEAD_LIMIT buf (print_request w.head) spans.len w.at.reads.1 w.at.len); target = w.target }
 
-pub whole_fits : (buf : List ℕ) (headers : List HeaderSpan) (spans : RequestSpans) (w : WholeHead (front buf) headers spans) → FitsLimit w.head
+pub whole_fits : (buf : List ℕ) (headers : List HeaderSpan) (spans : RequestSpans) (w : WholeHead (front buf) headers spans) → FitsHeadLimit w.head
 whole_fits buf headers spans w = omega (arith, w.at.len, w.within.section.len_fits, length-take HEAD_LIMIT buf)
 
 pub whole_within : (buf : List ℕ) (headers : List HeaderSpan) (spans : RequestSpans) (w : WholeHead (front buf) headers spans) → spans.len ≤ length buf

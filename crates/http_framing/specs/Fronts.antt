@@ -5,7 +5,7 @@ use Rattle.httparse.specs.Spans.{IsRequestAt, IsRequestWithin}
 use Rattle.httparse.specs.declared.spans.HeaderSpan.{HeaderSpan}
 use Rattle.httparse.specs.declared.spans.RequestSpans.{RequestSpans}
 use Rattle.http_model.specs.Heads.{is_visible, ReadsHead, IsOpen, NeverHasHead, front}
-use Rattle.http_model.specs.Messages.{IsMessageHead, FitsLimit}
+use Rattle.http_model.specs.Messages.{IsMessageHead, FitsHeadLimit}
 use Rattle.http_framing.specs.declared.fronts.Front.{Front}
 use Rattle.http_framing.specs.declared.fronts.Front.TheVariants.{Whole, Open, Never}
 use Rattle.http_framing.specs.declared.fronts.HeadSoFar.{HeadSoFar}
@@ -27,8 +27,8 @@ FrontIs bytes headers Never = NeverHasHead bytes
 -- what stands at the front of a buffer
 abbrev pub HeadSoFarIs : List ℕ → HeadSoFar → Type 0
 HeadSoFarIs buffer (so_far.Head m len) =
-    (len ≤ length buffer) × (h : RequestHead) × ReadsHead buffer h (drop len buffer) × FitsLimit h × (length h.fields ≤ FIELD_LIMIT) × IsMessageHead m h
-HeadSoFarIs buffer so_far.TooMany = (h : RequestHead) × (rest : List ℕ) × ReadsHead buffer h rest × FitsLimit h × (FIELD_LIMIT < length h.fields)
+    (len ≤ length buffer) × (h : RequestHead) × ReadsHead buffer h (drop len buffer) × FitsHeadLimit h × (length h.fields ≤ FIELD_LIMIT) × IsMessageHead m h
+HeadSoFarIs buffer so_far.TooMany = (h : RequestHead) × (rest : List ℕ) × ReadsHead buffer h rest × FitsHeadLimit h × (FIELD_LIMIT < length h.fields)
 HeadSoFarIs buffer so_far.Open = IsOpen (front buffer)
 HeadSoFarIs buffer so_far.Never = NeverHasHead (front buffer)
 HeadSoFarIs buffer so_far.NoMemory = ⊤

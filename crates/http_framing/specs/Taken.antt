@@ -8,9 +8,9 @@ use Rattle.outer_ends.specs.Told.{SourceTold}
 use Rattle.outer_ends.specs.Causes.{Rose}
 use Rattle.http_messages.specs.declared.framings.RefusedRest.TheVariants.{Hopeless, TooLarge, TooMany}
 use Rattle.http_model.specs.Heads.{ReadsHead, IsOpen, NeverHasHead, front, IsEmptyLines}
-use Rattle.http_model.specs.Messages.{FitsLimit}
+use Rattle.http_model.specs.Messages.{FitsHeadLimit}
 use Rattle.http_model.specs.Requests.{ReadsWholeHead}
-use Rattle.http_model.specs.Rests.{IsBetween, IsRefused}
+use Rattle.http_model.specs.Rests.{IsBetweenMessages, IsRefused}
 use Rattle.http_framing.specs.declared.heads.HeadEnd.{HeadEnd}
 use Rattle.http_framing.specs.declared.heads.HeadEnd.TheVariants as head
 use Rattle.http_messages.specs.declared.limits.TheConstants.{FIELD_LIMIT, HEAD_LIMIT}
@@ -19,10 +19,10 @@ use Rattle.http_messages.specs.declared.limits.TheConstants.{FIELD_LIMIT, HEAD_L
 abbrev pub VerdictOn : List ℕ → Option (List ℕ) → List ℕ → HeadEnd → Type 0
 VerdictOn seen left now (head.Head m) = ReadsWholeHead seen m now
 VerdictOn seen left now head.TooMany =
-    (now ≡ seen) × (h : RequestHead) × (rest : List ℕ) × ReadsHead seen h rest × FitsLimit h × (FIELD_LIMIT < length h.fields)
+    (now ≡ seen) × (h : RequestHead) × (rest : List ℕ) × ReadsHead seen h rest × FitsHeadLimit h × (FIELD_LIMIT < length h.fields)
 VerdictOn seen left now head.Bad = (now ≡ seen) × NeverHasHead (front seen)
 VerdictOn seen left now head.TooLarge = (now ≡ seen) × (HEAD_LIMIT ≤ length seen) × IsOpen (front seen)
-VerdictOn seen left now head.End = (now ≡ seen) × IsAtEnd left × IsBetween seen
+VerdictOn seen left now head.End = (now ≡ seen) × IsAtEnd left × IsBetweenMessages seen
 VerdictOn seen left now head.CutShort =
     (now ≡ seen) × IsAtEnd left × (length seen < HEAD_LIMIT) × IsOpen seen × ¬ (IsEmptyLines seen)
 VerdictOn seen left now head.ReadFault = (now ≡ seen) × (length seen < HEAD_LIMIT) × IsOpen seen
@@ -46,7 +46,7 @@ HeadOfRest rest now left (head.Head m) = IfSome left (λ more. ReadsWholeHead re
 HeadOfRest rest now left head.Bad = IsRefused rest Hopeless [] false
 HeadOfRest rest now left head.TooLarge = IsRefused rest TooLarge [] false
 HeadOfRest rest now left head.TooMany = IsRefused rest TooMany [] false
-HeadOfRest rest now left head.End = IsBetween rest
+HeadOfRest rest now left head.End = IsBetweenMessages rest
 HeadOfRest rest now left head.CutShort = (length rest < HEAD_LIMIT) × IsOpen rest × ¬ (IsEmptyLines rest)
 HeadOfRest rest now left head.ReadFault = ⊤
 HeadOfRest rest now left head.NoMemory = ⊤

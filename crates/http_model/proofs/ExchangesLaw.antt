@@ -6,7 +6,7 @@ use Rattle.http_messages.specs.declared.messages.Message.{Message}
 use Rattle.http_messages.specs.declared.messages.Reply.{Reply}
 use Rattle.http_model.specs.Framings.{closes}
 use Rattle.http_model.specs.Requests.{ReadsMessage, ReadsMessages, LastMessageCloses, HasNoMessage, AreRequests}
-use Rattle.http_model.specs.Exchanges.{Planned, planned_reply, planned_task, Plans, Exchange, IsAnswer, Runs, closes_by, StaysOpen, LastCloses, IsWhole, entries_of}
+use Rattle.http_model.specs.Exchanges.{Planned, planned_reply, planned_task, Plans, Exchange, IsAnswer, Runs, closes_by, StaysOpen, LastCloses, AreAllAnswered, entries_of}
 use Rattle.http_model.proofs.Requests.{message_unique, not_both}
 
 -- ---- where exchanges end
@@ -15,12 +15,12 @@ none_closes : {E : Type 0} → LastCloses {E = E} [] → ⊥
 none_closes l = absurd (omega (arith, ap length l.whole, length-append l.front (l.last ∷ [])))
 
 -- the first of some exchanges is the last and closes, or it does not close and the others end as all do
-pub whole_step : {E : Type 0} → (x : Exchange E) (xs : List (Exchange E)) (rest : List ℕ) → IsWhole (x ∷ xs) rest
-    → ((xs ≡ []) × IsTrue (closes_by x)) ⊎ (IsFalse (closes_by x) × IsWhole xs rest)
+pub whole_step : {E : Type 0} → (x : Exchange E) (xs : List (Exchange E)) (rest : List ℕ) → AreAllAnswered (x ∷ xs) rest
+    → ((xs ≡ []) × IsTrue (closes_by x)) ⊎ (IsFalse (closes_by x) × AreAllAnswered xs rest)
 whole_step x xs rest (inl (stays, none)) = inr (All-head (λ y. IsFalse (closes_by y)) x xs stays, inl (All-tail (λ y. IsFalse (closes_by y)) x xs stays, none))
 whole_step {E} x xs rest (inr l) = at l.front l.whole l.open_front
   where
-    at : (front : List (Exchange E)) → x ∷ xs ≡ front ++ l.last ∷ [] → StaysOpen front → ((xs ≡ []) × IsTrue (closes_by x)) ⊎ (IsFalse (closes_by x) × IsWhole xs rest)
+    at : (front : List (Exchange E)) → x ∷ xs ≡ front ++ l.last ∷ [] → StaysOpen front → ((xs ≡ []) × IsTrue (closes_by x)) ⊎ (IsFalse (closes_by x) × AreAllAnswered xs rest)
     at [] e stays = inl (rest_of e, subst (λ (y : Exchange E). IsTrue (closes_by y)) (sym (first_of e)) l.closing)
       where
         first_of : x ∷ xs ≡ l.last ∷ [] → x ≡ l.last
@@ -57,13 +57,13 @@ abbrev messages_of : {E : Type 0} → List (Exchange E) → List Message
 messages_of xs = map (λ x. x.message) xs
 
 pub are_requests : {T E : Type 0} → (plans : Plans T E) (i : ℕ) (bytes : List ℕ) (xs : List (Exchange E)) (j : ℕ) (rest : List ℕ) → Runs plans i bytes xs j rest
-    → IsWhole xs rest → AreRequests i bytes (map (λ x. x.message) xs) rest
+    → AreAllAnswered xs rest → AreRequests i bytes (map (λ x. x.message) xs) rest
 are_requests plans i bytes [] j rest h (inl (stays, none)) = record { reads = h.1; longest = inr none }
 are_requests plans i bytes [] j rest h (inr l) = absurd (none_closes l)
 are_requests {T} {E} plans i bytes (x ∷ xs) j rest h whole = at (are_requests plans x.number h.0 xs j rest h.4) (whole_step x xs rest whole)
   where
-    at : (IsWhole xs rest → AreRequests x.number h.0 (messages_of xs) rest)
-        → ((xs ≡ []) × IsTrue (closes_by x)) ⊎ (IsFalse (closes_by x) × IsWhole xs rest) → AreRequests i bytes (messages_of (x ∷ xs)) rest
+    at : (AreAllAnswered xs rest → AreRequests x.number h.0 (messages_of xs) rest)
+        → ((xs ≡ []) × IsTrue (closes_by x)) ⊎ (IsFalse (closes_by x) × AreAllAnswered xs rest) → AreRequests i bytes (messages_of (x ∷ xs)) rest
     at next (inl (e, closing)) = record {
       reads = (
         h.0,
@@ -105,17 +105,17 @@ answer_unique {T} {E} plans (planned_task t) r q es fs more others h k e =
 
 -- one stream has one run where the entries are known
 pub runs_unique : {T E : Type 0} → (plans : Plans T E) (i : ℕ) (bytes : List ℕ) (xs ys : List (Exchange E)) (j k : ℕ) (r q : List ℕ) (more others : List E)
-    → Runs plans i bytes xs j r → Runs plans i bytes ys k q → IsWhole xs r → IsWhole ys q → entries_of xs ++ more ≡ entries_of ys ++ others
+    → Runs plans i bytes xs j r → Runs plans i bytes ys k q → AreAllAnswered xs r → AreAllAnswered ys q → entries_of xs ++ more ≡ entries_of ys ++ others
     → (xs ≡ ys) × (j ≡ k) × (r ≡ q) × (more ≡ others)
 runs_unique plans i bytes [] [] j k r q more others x y v w e = (refl, x.0 ∙ sym y.0, sym x.1 ∙ y.1, e)
 runs_unique {T} {E} plans i bytes [] (b ∷ bs) j k r q more others x y v w e = absurd (at v)
   where
-    at : IsWhole {E = E} [] r → ⊥
+    at : AreAllAnswered {E = E} [] r → ⊥
     at (inl (stays, none)) = none b.message y.0 (subst (λ (l : List ℕ). ReadsMessage l b.message y.0) x.1 y.1)
     at (inr l) = none_closes l
 runs_unique {T} {E} plans i bytes (a ∷ as_) [] j k r q more others x y v w e = absurd (at w)
   where
-    at : IsWhole {E = E} [] q → ⊥
+    at : AreAllAnswered {E = E} [] q → ⊥
     at (inl (stays, none)) = none a.message x.0 (subst (λ (l : List ℕ). ReadsMessage l a.message x.0) y.1 x.1)
     at (inr l) = none_closes l
 runs_unique {T} {E} plans i bytes (a ∷ xs) (b ∷ ys) j k r q more others x y v w e =
@@ -142,9 +142,9 @@ runs_unique {T} {E} plans i bytes (a ∷ xs) (b ∷ ys) j k r q more others x y 
     joined : xs ≡ ys → a ∷ xs ≡ b ∷ ys
     joined p = λ z. same z ∷ p z
 
-    at : (Runs plans b.number y.0 xs j r → Runs plans b.number y.0 ys k q → IsWhole xs r → IsWhole ys q → entries_of xs ++ more ≡ entries_of ys ++ others
+    at : (Runs plans b.number y.0 xs j r → Runs plans b.number y.0 ys k q → AreAllAnswered xs r → AreAllAnswered ys q → entries_of xs ++ more ≡ entries_of ys ++ others
         → (xs ≡ ys) × (j ≡ k) × (r ≡ q) × (more ≡ others))
-        → ((xs ≡ []) × IsTrue (closes_by a)) ⊎ (IsFalse (closes_by a) × IsWhole xs r) → ((ys ≡ []) × IsTrue (closes_by b)) ⊎ (IsFalse (closes_by b) × IsWhole ys q)
+        → ((xs ≡ []) × IsTrue (closes_by a)) ⊎ (IsFalse (closes_by a) × AreAllAnswered xs r) → ((ys ≡ []) × IsTrue (closes_by b)) ⊎ (IsFalse (closes_by b) × AreAllAnswered ys q)
         → (a ∷ xs ≡ b ∷ ys) × (j ≡ k) × (r ≡ q) × (more ≡ others)
     at next (inl (p, closing)) (inl (s, other)) =
         let left = runs_nothing plans b.number y.0 xs j r p behind in

@@ -11,7 +11,7 @@ use Rattle.httparse.proofs.PieceLemmas.{token_is_no_newline}
 use Rattle.httparse.proofs.GrammarLemmas.{print_request-append}
 use Rattle.http_messages.specs.declared.messages.Message.{Message}
 use Rattle.http_model.specs.Heads.{is_visible, ReadsHead, NeverHasHead, IsOpen, front, IsEmptyLines}
-use Rattle.http_model.specs.Messages.{FitsLimit}
+use Rattle.http_model.specs.Messages.{FitsHeadLimit}
 use Rattle.http_messages.specs.declared.framings.Framing.{Framing}
 use Rattle.http_messages.specs.declared.framings.Framing.TheVariants.{Chunked}
 use Rattle.http_messages.specs.declared.framings.HeadFault.{HeadFault}
@@ -19,7 +19,7 @@ use Rattle.http_model.specs.Framings.{framing_of, interim_of, is_head}
 use Rattle.http_model.specs.Requests.{ReadsWholeHead, HasNoMessage}
 use Rattle.http_messages.specs.declared.framings.RefusedRest.{RefusedRest}
 use Rattle.http_messages.specs.declared.framings.RefusedRest.TheVariants.{Hopeless, TooLarge, TooMany, Head, BadChunk, LargeBody}
-use Rattle.http_model.specs.Rests.{IsBetween, IsRefused, IsCut, RestKind, rest_between, rest_cut, rest_refused, rest_message, IsRest, HeadKind, head_never, head_large, head_many, head_open, head_whole, IsHeadKind}
+use Rattle.http_model.specs.Rests.{IsBetweenMessages, IsRefused, IsCut, RestKind, rest_between, rest_cut, rest_refused, rest_message, IsRest, HeadKind, head_never, head_large, head_many, head_open, head_whole, IsHeadKind}
 use Rattle.http_model.specs.Bodies.{BodyKind, body_good, body_bad, body_large, body_cut, IsBodyKind}
 use Rattle.http_model.proofs.BodiesLaw.{body_kind_unique}
 use Rattle.http_model.proofs.HopelessLaw.{in_front, at_end}
@@ -37,7 +37,7 @@ never_whole : (rest : List ℕ) (h : RequestHead) (after : List ℕ) → NeverHa
 never_whole rest h after never x = never_read rest [] h after never (record { reads = (x.reads.0, append-nil rest ∙ x.reads.1); target = x.target })
 
 -- a head within the limit stands in the front
-in_limit : (rest : List ℕ) (h : RequestHead) (after : List ℕ) → FitsLimit h → ReadsHead rest h after → (y : List ℕ) × ReadsHead (front rest) h y
+in_limit : (rest : List ℕ) (h : RequestHead) (after : List ℕ) → FitsHeadLimit h → ReadsHead rest h after → (y : List ℕ) × ReadsHead (front rest) h y
 in_limit rest h after fits x = (
   take (HEAD_LIMIT - length (print_request h)) after,
   record { reads = (x.reads.0, ap (take HEAD_LIMIT) x.reads.1 ∙ ap (λ (n : ℕ). take n (print_request h ++ after)) sizes ∙ take-append-add (print_request h) after (HEAD_LIMIT - length (print_request h))); target = x.target },
@@ -46,7 +46,7 @@ in_limit rest h after fits x = (
     sizes : HEAD_LIMIT ≡ length (print_request h) + (HEAD_LIMIT - length (print_request h))
     sizes = omega (arith, fits)
 
-large_read : (rest : List ℕ) (h : RequestHead) (after : List ℕ) → FitsLimit h → IsOpen (front rest) → ReadsHead rest h after → ⊥
+large_read : (rest : List ℕ) (h : RequestHead) (after : List ℕ) → FitsHeadLimit h → IsOpen (front rest) → ReadsHead rest h after → ⊥
 large_read rest h after fits may x = let f = in_limit rest h after fits x in may.none h f.0 f.1
 
 open_never : (rest : List ℕ) → IsOpen rest → NeverHasHead (front rest) → ⊥
@@ -197,7 +197,7 @@ IsNoMessage (rest_message m after) = ⊥
 none_of : (rest : List ℕ) (k : RestKind) → IsNoMessage k → IsRest rest k → HasNoMessage rest
 none_of rest k other x m after y = subst IsNoMessage (rest_unique rest k (rest_message m after) x y) other
 
-pub between_none : (rest : List ℕ) → IsBetween rest → HasNoMessage rest
+pub between_none : (rest : List ℕ) → IsBetweenMessages rest → HasNoMessage rest
 between_none rest x = none_of rest rest_between tt x
 
 pub cut_none : (rest early : List ℕ) → IsCut rest early → HasNoMessage rest

@@ -2,11 +2,11 @@
 use Rattle.std.proofs.Common.{◌≡◌, ℕ, Bool, true, false, List, [], ◌++◌, map, refl, sym, ap, subst, ◌∙◌, ◌⊎◌, inl, inr, append_assoc, append-nil}
 use Rattle.http_messages.specs.declared.framings.RefusedRest.{RefusedRest}
 use Rattle.http_messages.specs.ReplyText.{reply_text, unavailable_text}
-use Rattle.http_model.specs.Rests.{IsBetween, IsCut, RestKind, rest_between, rest_cut, rest_refused, rest_message}
+use Rattle.http_model.specs.Rests.{IsBetweenMessages, IsCut, RestKind, rest_between, rest_cut, rest_refused, rest_message}
 use Rattle.http_model.specs.Refusals.{refusal_of}
 use Rattle.http_model.specs.Requests.{AreRequests}
 use Rattle.http_messages.specs.declared.ends.SessionEnd.TheVariants.{ReadFault, NoMemory}
-use Rattle.http_model.specs.Exchanges.{Plans, Exchange, Runs, StaysOpen, LastCloses, IsWhole, text_of, entries_of}
+use Rattle.http_model.specs.Exchanges.{Plans, Exchange, Runs, StaysOpen, LastCloses, AreAllAnswered, text_of, entries_of}
 use Rattle.http_model.specs.Served.{RefusalText, EndIs, read_at, Served, InputEnd, by_closing, by_cut, by_refusal, end_of, RunsOut}
 use Rattle.http_model.proofs.RestsLaw.{rest_unique, between_none, cut_none, refused_none}
 use Rattle.http_model.proofs.ExchangesLaw.{open_apart, runs_unique, are_requests}
@@ -58,11 +58,11 @@ IsCutKind rest_between = ⊥
 IsCutKind (rest_refused why early only) = ⊥
 IsCutKind (rest_message m after) = ⊥
 
-between_cut : (rest a : List ℕ) → IsBetween rest → IsCut rest a → ⊥
+between_cut : (rest a : List ℕ) → IsBetweenMessages rest → IsCut rest a → ⊥
 unfolding IsBetweenKind
 between_cut rest a x y = subst IsBetweenKind (rest_unique rest rest_between (rest_cut a) x y) tt
 
-between_refused : (rest : List ℕ) (s : ℕ) (a : List ℕ) → IsBetween rest → RefusalText rest s a → ⊥
+between_refused : (rest : List ℕ) (s : ℕ) (a : List ℕ) → IsBetweenMessages rest → RefusalText rest s a → ⊥
 unfolding IsBetweenKind
 between_refused rest s a x y = subst IsBetweenKind (rest_unique rest rest_between (rest_refused y.why y.early y.head_only) x y.refused) tt
 
@@ -74,13 +74,13 @@ cut_refused rest s a b x y = subst IsCutKind (rest_unique rest (rest_cut b) (res
 
 -- an end that the input decides has all messages, and no further entry
 ended : {T E : Type 0} → (plans : Plans T E) (worn : Bool) (xs : List (Exchange E)) (j : ℕ) (rest : List ℕ) (more : List E) (tail : List ℕ) (e : InputEnd)
-    → EndIs plans worn xs j rest more tail (end_of e) → IsWhole xs rest × (more ≡ [])
+    → EndIs plans worn xs j rest more tail (end_of e) → AreAllAnswered xs rest × (more ≡ [])
 ended plans worn xs j rest more tail by_closing (inl (stays, between), none, empty) = (inl (stays, between_none rest between), none)
 ended plans worn xs j rest more tail by_closing (inr last, none, empty) = (inr last, none)
 ended plans worn xs j rest more tail by_cut (stays, cut, none) = (inl (stays, cut_none rest tail cut), none)
 ended plans worn xs j rest more tail (by_refusal s) (stays, text, none) = (inl (stays, refused_none rest text.why text.early text.head_only text.refused), none)
 
-closing_apart : {E : Type 0} → (xs : List (Exchange E)) (rest : List ℕ) → (StaysOpen xs × IsBetween rest) ⊎ LastCloses xs → StaysOpen xs → (IsBetween rest → ⊥) → ⊥
+closing_apart : {E : Type 0} → (xs : List (Exchange E)) (rest : List ℕ) → (StaysOpen xs × IsBetweenMessages rest) ⊎ LastCloses xs → StaysOpen xs → (IsBetweenMessages rest → ⊥) → ⊥
 closing_apart xs rest (inl (stays, between)) still none = none between
 closing_apart xs rest (inr last) still none = open_apart xs still last
 
@@ -126,7 +126,7 @@ served_all plans i bytes taken worn j entries out e s =
     (ended plans worn s.exchanges j s.rest s.more s.tail e s.ends).0
 
 -- behind the exchanges of a session whose source failed no message follows
-failed_whole : {E : Type 0} → (xs : List (Exchange E)) (rest tail : List ℕ) → StaysOpen xs → (IsBetween rest × (tail ≡ [])) ⊎ IsCut rest tail → IsWhole xs rest
+failed_whole : {E : Type 0} → (xs : List (Exchange E)) (rest tail : List ℕ) → StaysOpen xs → (IsBetweenMessages rest × (tail ≡ [])) ⊎ IsCut rest tail → AreAllAnswered xs rest
 failed_whole xs rest tail stays (inl (between, e)) = inl (stays, between_none rest between)
 failed_whole xs rest tail stays (inr cut) = inl (stays, cut_none rest tail cut)
 

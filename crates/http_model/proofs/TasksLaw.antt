@@ -12,7 +12,7 @@ use Rattle.http_messages.specs.declared.ends.SessionEnd.TheVariants as over
 use Rattle.http_messages.specs.declared.limits.TheConstants.{MESSAGE_LIMIT}
 use Rattle.http_model.specs.Framings.{closes}
 use Rattle.http_model.specs.Requests.{ReadsMessage, ReadsMessages, LastMessageCloses, HasNoMessage, AreRequests}
-use Rattle.http_model.specs.Rests.{IsBetween}
+use Rattle.http_model.specs.Rests.{IsBetweenMessages}
 use Rattle.http_model.specs.Exchanges.{Plans, Planned, planned_reply, planned_task, Exchange, IsAnswer, Runs, StaysOpen, LastCloses, closes_by, entries_of}
 use Rattle.http_model.specs.Served.{Served}
 use Rattle.http_model.specs.Tasks.{task_or_none, tasks_of, Begins, IsMemoryEnd}
@@ -108,7 +108,7 @@ module _ {T E : Type 0} (plans : Plans T E) where
   served_tasks one bytes taken worn j entries out over.Closed ms r s memory all =
       begins_at one bytes j entries s.exchanges s.rest ms r (no_more s.exchanges s.more entries s.joined s.ends.1) s.runs (closed s.ends.0) all
     where
-      closed : (StaysOpen s.exchanges × IsBetween s.rest) ⊎ LastCloses s.exchanges → OpenBut s.exchanges
+      closed : (StaysOpen s.exchanges × IsBetweenMessages s.rest) ⊎ LastCloses s.exchanges → OpenBut s.exchanges
       closed (inl h) = open_all s.exchanges h.0
       closed (inr h) = open_last s.exchanges h
   served_tasks one bytes taken worn j entries out (over.Refused k) ms r s memory all =

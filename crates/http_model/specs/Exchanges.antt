@@ -54,8 +54,8 @@ pub record LastCloses {E : Type 0} (xs : List (Exchange E)) : Type 0 where
   pub closing : IsTrue (closes_by last)
 
 -- no further message is answered: the last one closes, or none does and no message follows
-abbrev pub IsWhole : {E : Type 0} → List (Exchange E) → List ℕ → Type 0
-IsWhole xs rest = (StaysOpen xs × HasNoMessage rest) ⊎ LastCloses xs
+abbrev pub AreAllAnswered : {E : Type 0} → List (Exchange E) → List ℕ → Type 0
+AreAllAnswered xs rest = (StaysOpen xs × HasNoMessage rest) ⊎ LastCloses xs
 
 -- what is sent for a message: its interim text, and its reply, without a body for HEAD
 abbrev pub sent_for : Message → ℕ → Reply → List ℕ

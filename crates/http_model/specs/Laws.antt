@@ -11,7 +11,7 @@ use Rattle.http_model.specs.Targets.{has_visible_target}
 use Rattle.http_model.specs.Blanks.{empty_lines}
 use Rattle.http_model.specs.Bodies.{ReadsBody, IsBadChunked, IsLargeChunked}
 use Rattle.http_model.specs.Requests.{ReadsWholeHead, ReadsMessage, HasNoMessage}
-use Rattle.http_model.specs.Rests.{IsBetween, IsRefused, IsCut, IsEarly}
+use Rattle.http_model.specs.Rests.{IsBetweenMessages, IsRefused, IsCut, IsEarly}
 use Rattle.http_messages.specs.declared.limits.TheConstants.{HEAD_LIMIT}
 
 -- what httparse's answers, and three tests that compute, say of heads
@@ -47,6 +47,6 @@ pub record ReadStays : Type 0 where
 
 -- no message begins what is between messages, cut or refused
 pub record NoMessageBegins : Type 0 where
-  pub between : (rest : List ℕ) → IsBetween rest → HasNoMessage rest
+  pub between : (rest : List ℕ) → IsBetweenMessages rest → HasNoMessage rest
   pub cut : (rest early : List ℕ) → IsCut rest early → HasNoMessage rest
   pub refused : (rest : List ℕ) (why : RefusedRest) (early : List ℕ) (head_only : Bool) → IsRefused rest why early head_only → HasNoMessage rest

@@ -19,5 +19,5 @@ pub record IsMessageHead (m : Message) (h : RequestHead) : Type 0 where
   pub body : m.body ≡ []
 
 -- the head is within the limit, empty lines before it included (of this project)
-abbrev pub FitsLimit : RequestHead → Type 0
-FitsLimit h = length (print_request h) ≤ HEAD_LIMIT
+abbrev pub FitsHeadLimit : RequestHead → Type 0
+FitsHeadLimit h = length (print_request h) ≤ HEAD_LIMIT

@@ -3,7 +3,7 @@ use Rattle.std.specs.Prelude.{◌≡◌, ◌⊎◌, ℕ, ◌+◌, ◌≤◌, Lis
 use Rattle.httparse.specs.Grammar.{RequestHead}
 use Rattle.http_messages.specs.declared.messages.Message.{Message}
 use Rattle.http_model.specs.Heads.{ReadsHead}
-use Rattle.http_model.specs.Messages.{IsMessageHead, FitsLimit}
+use Rattle.http_model.specs.Messages.{IsMessageHead, FitsHeadLimit}
 use Rattle.http_messages.specs.declared.framings.Framing.{Framing}
 use Rattle.http_model.specs.Framings.{framing_of, closes}
 use Rattle.http_model.specs.Bodies.{ReadsBody}
@@ -13,7 +13,7 @@ use Rattle.http_messages.specs.declared.limits.TheConstants.{FIELD_LIMIT}
 pub record ReadsWholeHead (bytes : List ℕ) (m : Message) (rest : List ℕ) : Type 0 where
   pub head : RequestHead
   pub reads : ReadsHead bytes head rest
-  pub fits : FitsLimit head
+  pub fits : FitsHeadLimit head
   pub fields : length head.fields ≤ FIELD_LIMIT
   pub message : IsMessageHead m head
 

@@ -7,7 +7,7 @@ use Rattle.http_messages.specs.declared.framings.Framing.TheVariants.{Chunked}
 use Rattle.http_messages.specs.declared.framings.RefusedRest.{RefusedRest}
 use Rattle.http_messages.specs.declared.framings.RefusedRest.TheVariants.{Hopeless, TooLarge, TooMany, Head, BadChunk, LargeBody}
 use Rattle.http_model.specs.Heads.{ReadsHead, NeverHasHead, IsOpen, front, IsEmptyLines}
-use Rattle.http_model.specs.Messages.{FitsLimit}
+use Rattle.http_model.specs.Messages.{FitsHeadLimit}
 use Rattle.http_model.specs.Framings.{framing_of, interim_of, is_head}
 use Rattle.http_model.specs.Bodies.{IsBadChunked, IsLargeChunked, IsCutBody}
 use Rattle.http_model.specs.Requests.{ReadsWholeHead, ReadsMessage}
@@ -19,15 +19,15 @@ pub record Accepts (rest : List ℕ) (m : Message) (framing : Framing) (after : 
   pub framed : framing_of m ≡ Ok framing
 
 -- nothing, or empty lines (RFC 9112, section 2.2)
-abbrev pub IsBetween : List ℕ → Type 0
-IsBetween rest = (length rest < HEAD_LIMIT) × IsEmptyLines rest
+abbrev pub IsBetweenMessages : List ℕ → Type 0
+IsBetweenMessages rest = (length rest < HEAD_LIMIT) × IsEmptyLines rest
 
 -- the rest is refused for that reason, behind that interim text, and its head is one of a HEAD request or not (of this project)
 abbrev pub IsRefused : List ℕ → RefusedRest → List ℕ → Bool → Type 0
 IsRefused rest Hopeless early head_only = NeverHasHead (front rest) × (early ≡ []) × (head_only ≡ false)
 IsRefused rest TooLarge early head_only = (HEAD_LIMIT ≤ length rest) × IsOpen (front rest) × (early ≡ []) × (head_only ≡ false)
 IsRefused rest TooMany early head_only =
-    (h : RequestHead) × (after : List ℕ) × ReadsHead rest h after × FitsLimit h × (FIELD_LIMIT < length h.fields) × (early ≡ []) × (head_only ≡ false)
+    (h : RequestHead) × (after : List ℕ) × ReadsHead rest h after × FitsHeadLimit h × (FIELD_LIMIT < length h.fields) × (early ≡ []) × (head_only ≡ false)
 IsRefused rest (Head fault) early head_only =
     (m : Message) × (after : List ℕ) × ReadsWholeHead rest m after × (framing_of m ≡ Err fault) × (early ≡ []) × (head_only ≡ is_head m)
 IsRefused rest BadChunk early head_only =
@@ -58,7 +58,7 @@ pub data HeadKind : Type 0 where
 abbrev pub IsHeadKind : List ℕ → HeadKind → Type 0
 IsHeadKind rest head_never = NeverHasHead (front rest)
 IsHeadKind rest head_large = (HEAD_LIMIT ≤ length rest) × IsOpen (front rest)
-IsHeadKind rest head_many = (h : RequestHead) × (after : List ℕ) × ReadsHead rest h after × FitsLimit h × (FIELD_LIMIT < length h.fields)
+IsHeadKind rest head_many = (h : RequestHead) × (after : List ℕ) × ReadsHead rest h after × FitsHeadLimit h × (FIELD_LIMIT < length h.fields)
 IsHeadKind rest head_open = (length rest < HEAD_LIMIT) × IsOpen rest
 IsHeadKind rest (head_whole m after) = ReadsWholeHead rest m after
 
@@ -71,7 +71,7 @@ pub data RestKind : Type 0 where
 
 -- the rest is of that kind
 abbrev pub IsRest : List ℕ → RestKind → Type 0
-IsRest rest rest_between = IsBetween rest
+IsRest rest rest_between = IsBetweenMessages rest
 IsRest rest (rest_cut early) = IsCut rest early
 IsRest rest (rest_refused why early head_only) = IsRefused rest why early head_only
 IsRest rest (rest_message m after) = ReadsMessage rest m after

@@ -9,7 +9,7 @@ use Rattle.http_messages.specs.declared.ends.SessionEnd.TheVariants.{Closed, Ref
 use Rattle.http_messages.specs.ReplyText.{reply_text, unavailable_text, stop_text}
 use Rattle.http_model.specs.Framings.{interim_of}
 use Rattle.http_model.specs.Requests.{ReadsMessage}
-use Rattle.http_model.specs.Rests.{IsBetween, IsRefused, IsCut, IsEarly}
+use Rattle.http_model.specs.Rests.{IsBetweenMessages, IsRefused, IsCut, IsEarly}
 use Rattle.http_model.specs.Refusals.{refusal_of}
 use Rattle.http_model.specs.Exchanges.{Plans, planned_task, Exchange, IsAnswer, Runs, StaysOpen, LastCloses, sent_for, text_of, entries_of}
 
@@ -63,10 +63,10 @@ pub data CanBeCut {T E : Type 0} (plans : Plans T E) (worn : Bool) (answered : �
 
 -- the end of a session behind these exchanges: what the bytes behind them are, the further entries, and what is sent last
 abbrev pub EndIs : {T E : Type 0} → Plans T E → Bool → List (Exchange E) → ℕ → List ℕ → List E → List ℕ → SessionEnd → Type 0
-EndIs plans worn xs answered rest more tail Closed = ((StaysOpen xs × IsBetween rest) ⊎ LastCloses xs) × (more ≡ []) × (tail ≡ [])
+EndIs plans worn xs answered rest more tail Closed = ((StaysOpen xs × IsBetweenMessages rest) ⊎ LastCloses xs) × (more ≡ []) × (tail ≡ [])
 EndIs plans worn xs answered rest more tail (Refused s) = StaysOpen xs × RefusalText rest s tail × (more ≡ [])
 EndIs plans worn xs answered rest more tail CutShort = StaysOpen xs × IsCut rest tail × (more ≡ [])
-EndIs plans worn xs answered rest more tail ReadFault = StaysOpen xs × ((IsBetween rest × (tail ≡ [])) ⊎ IsCut rest tail) × (more ≡ [])
+EndIs plans worn xs answered rest more tail ReadFault = StaysOpen xs × ((IsBetweenMessages rest × (tail ≡ [])) ⊎ IsCut rest tail) × (more ≡ [])
 EndIs plans worn xs answered rest more tail WriteFault =
     StaysOpen xs × ((text : List ℕ) × CanBeCut plans worn answered rest more text × IsProperPrefix tail text)
 EndIs plans worn xs answered rest more tail NoMemory = StaysOpen xs × EndsEarly rest unavailable_text tail × (more ≡ [])

@@ -5,7 +5,7 @@ use Rattle.http_messages.specs.declared.ends.SessionEnd.{SessionEnd}
 use Rattle.http_messages.specs.declared.ends.SessionEnd.TheVariants.{ReadFault, NoMemory}
 use Rattle.http_messages.specs.ReplyText.{unavailable_text}
 use Rattle.http_model.specs.Requests.{AreRequests}
-use Rattle.http_model.specs.Exchanges.{Plans, Exchange, Runs, IsWhole}
+use Rattle.http_model.specs.Exchanges.{Plans, Exchange, Runs, AreAllAnswered}
 use Rattle.http_model.specs.Served.{Served, RunsOut, InputEnd, end_of}
 use Rattle.http_model.specs.Tasks.{tasks_of, Begins, IsMemoryEnd}
 
@@ -13,7 +13,7 @@ use Rattle.http_model.specs.Tasks.{tasks_of, Begins, IsMemoryEnd}
 abbrev pub WholeAreRequests : Type 0 → Type 0 → Type 0
 WholeAreRequests T E =
     (plans : Plans T E) (i : ℕ) (bytes : List ℕ) (xs : List (Exchange E)) (j : ℕ) (rest : List ℕ)
-    → Runs plans i bytes xs j rest → IsWhole xs rest → AreRequests i bytes (map (λ x. x.message) xs) rest
+    → Runs plans i bytes xs j rest → AreAllAnswered xs rest → AreRequests i bytes (map (λ x. x.message) xs) rest
 
 -- so they are where the input decides the end
 abbrev pub ServedAreRequests : Type 0 → Type 0 → Type 0

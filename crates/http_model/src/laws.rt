@@ -5,7 +5,7 @@ ghost use Rattle.http_model.specs.Hopeless.{RuleAgrees};
 ghost use Rattle.http_model.specs.Bodies.{BodyKind, IsBodyKind};
 ghost use Rattle.http_model.specs.Requests.{ReadsMessage, AreRequests};
 ghost use Rattle.http_model.specs.Rests.{HeadKind, IsHeadKind, RestKind, IsRest};
-ghost use Rattle.http_model.specs.Exchanges.{Plans, Exchange, Runs, IsWhole};
+ghost use Rattle.http_model.specs.Exchanges.{Plans, Exchange, Runs, AreAllAnswered};
 ghost use Rattle.http_model.specs.Laws.{HeadsDecided, ReadStays, NoMessageBegins};
 ghost use Rattle.http_model.specs.SessionLaws.{WholeAreRequests, ServedAreRequests, FailedAreRequests, ServedIsOne, EntriesAreTasks, MemoryRunsOut};
 

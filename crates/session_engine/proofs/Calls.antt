@@ -29,7 +29,7 @@ use Rattle.session_engine.proofs.Serving.{runs_up, replies_of}
 use Rattle.http_model.specs.Tasks.{IsMemoryEnd}
 use Rattle.outer_ends.specs.Told.{SinkTold}
 use Rattle.outer_ends.specs.Memory.{sink_told}
-use Rattle.session_engine.specs.Driving.{Connection, IsBetweenTwo, IsAtTask, IsOver, Sees, Sends, SaysOut, IsEntryOf, HasPending, SessionsGoOn}
+use Rattle.session_engine.specs.Driving.{Connection, IsBetweenTwo, IsAtTask, IsOver, CallsNext, CallsSend, SaysOut, IsEntryOf, HasPending, SessionsGoOn}
 
 -- ---- the start
 
@@ -58,7 +58,7 @@ module _ (laws : ReadStays) (plans : TaskPlans) (bytes : List ℕ) (entries : Li
       (answers_then plans 0 (old.source.taken ++ more) old.session.answered (old.session.buffer ++ more) k rest entries [] old.sink.written text
       (answers_more laws plans 0 old.source.taken old.session.answered old.session.buffer more entries old.sink.written before) later))
 
-  pub asks : (t : Task) → IsBetweenTwo plans bytes entries old → Sees plans old new (next.Task t) → IsAtTask plans bytes entries t new
+  pub asks : (t : Task) → IsBetweenTwo plans bytes entries old → CallsNext plans old new (next.Task t) → IsAtTask plans bytes entries t new
   asks t p q = record {
     whole = moved q.bytes p.whole q.taken_more q.left_less;
     middle = q.verdict.middle;
@@ -89,13 +89,13 @@ module _ (laws : ReadStays) (plans : TaskPlans) (bytes : List ℕ) (entries : Li
     in_memory = memory;
   }
 
-  pub ends_closed : IsBetweenTwo plans bytes entries old → Sees plans old new (next.Ended Closed) → IsOver plans bytes entries Closed new
+  pub ends_closed : IsBetweenTwo plans bytes entries old → CallsNext plans old new (next.Ended Closed) → IsOver plans bytes entries Closed new
   ends_closed p q = ends_so Closed tt p q.bytes q.sent q.taken_more q.left_less q.written_more q.verdict
 
-  pub ends_refused : (s : ℕ) → IsBetweenTwo plans bytes entries old → Sees plans old new (next.Ended (Refused s)) → IsOver plans bytes entries (Refused s) new
+  pub ends_refused : (s : ℕ) → IsBetweenTwo plans bytes entries old → CallsNext plans old new (next.Ended (Refused s)) → IsOver plans bytes entries (Refused s) new
   ends_refused s p q = ends_so (Refused s) tt p q.bytes q.sent q.taken_more q.left_less q.written_more q.verdict
 
-  pub ends_cut : IsBetweenTwo plans bytes entries old → Sees plans old new (next.Ended CutShort) → IsOver plans bytes entries CutShort new
+  pub ends_cut : IsBetweenTwo plans bytes entries old → CallsNext plans old new (next.Ended CutShort) → IsOver plans bytes entries CutShort new
   ends_cut p q = ends_so CutShort tt p q.bytes q.sent q.taken_more q.left_less q.written_more q.verdict
 
 -- want of memory behind what was answered, whose text was then written
@@ -107,7 +107,7 @@ out_of_memory laws plans taken left k rest entries text early before is_early =
     (settles_then plans 0 taken k rest (Some left) false k entries [] text (early ++ unavailable_text) NoMemory before
     (settles_at plans k rest (Some left) false [] (early ++ unavailable_text) NoMemory (no_exchange, record { early = early; is_early = is_early; whole = refl }, refl) (inr tt))))
 
-pub ends_out : ReadStays → (plans : TaskPlans) (bytes : List ℕ) (entries : List Entry) (old mid new : Connection) → IsBetweenTwo plans bytes entries old → Sees plans old mid (next.Ended NoMemory)
+pub ends_out : ReadStays → (plans : TaskPlans) (bytes : List ℕ) (entries : List Entry) (old mid new : Connection) → IsBetweenTwo plans bytes entries old → CallsNext plans old mid (next.Ended NoMemory)
     → new.source ≡ mid.source → new.session ≡ mid.session → new.sink.written ≡ mid.sink.written ++ unavailable_text → IsOver plans bytes entries NoMemory new
 ends_out laws plans bytes entries old mid new p q source session written = record {
   answered = mid.session.answered;
@@ -128,7 +128,7 @@ ends_out laws plans bytes entries old mid new p q source session written = recor
 is_some : (o : Option Pending) (q : Pending) → o ≡ Some q → IsSome o
 is_some o q e = subst IsSome (sym e) refl
 
-pub waits : (plans : TaskPlans) (old new : Connection) (t : Task) → Sees plans old new (next.Task t) → HasPending old new
+pub waits : (plans : TaskPlans) (old new : Connection) (t : Task) → CallsNext plans old new (next.Task t) → HasPending old new
 waits plans old new t q = record {
   answered = runs_up plans old.session.answered (old.session.buffer ++ q.bytes) q.verdict.before.exchanges new.session.answered q.verdict.middle q.verdict.before.runs;
   pending = is_some new.session.pending _ q.verdict.pending;
@@ -200,7 +200,7 @@ module _ (laws : ReadStays) (plans : TaskPlans) (bytes : List ℕ) (entries : Li
 -- ---- the laws
 
 ends : ReadStays → (plans : TaskPlans) (bytes : List ℕ) (entries : List Entry) (old new : Connection) (end : SessionEnd) → IsMemoryEnd end → ¬ (end ≡ NoMemory)
-    → IsBetweenTwo plans bytes entries old → Sees plans old new (next.Ended end) → IsOver plans bytes entries end new
+    → IsBetweenTwo plans bytes entries old → CallsNext plans old new (next.Ended end) → IsOver plans bytes entries end new
 ends laws plans bytes entries old new Closed memory other p q = ends_closed laws plans bytes entries old new p q
 ends laws plans bytes entries old new (Refused s) memory other p q = ends_refused laws plans bytes entries old new s p q
 ends laws plans bytes entries old new CutShort memory other p q = ends_cut laws plans bytes entries old new p q

@@ -16,7 +16,7 @@ use Rattle.http_messages.specs.declared.limits.TheConstants.{HEAD_LIMIT}
 use Rattle.http_model.specs.Blanks.{empty_lines}
 use Rattle.http_model.specs.Framings.{framing_of, expects_continue, interim_of, is_head}
 use Rattle.http_model.specs.Bodies.{ReadsBody}
-use Rattle.http_model.specs.Rests.{Accepts, IsBetween, IsCut}
+use Rattle.http_model.specs.Rests.{Accepts, IsBetweenMessages, IsCut}
 use Rattle.http_model.specs.Laws.{HeadsDecided, ReadStays}
 use Rattle.http_framing.specs.Taken.{VerdictOn, TakesHead}
 use Rattle.http_framing.specs.declared.heads.HeadEnd.TheVariants as head
@@ -121,7 +121,7 @@ found_cut old now t u w h = record {
   verdict = (inl (h.verdict.2, h.verdict.3, h.verdict.4, refl), h.verdict.1);
 }
 
-open_rest : HeadsDecided → (seen sent : List ℕ) (b : Bool) → empty_lines false seen ≡ b → length seen < HEAD_LIMIT → IsOpen seen → sent ≡ [] → (IsBetween seen × (sent ≡ [])) ⊎ IsCut seen sent
+open_rest : HeadsDecided → (seen sent : List ℕ) (b : Bool) → empty_lines false seen ≡ b → length seen < HEAD_LIMIT → IsOpen seen → sent ≡ [] → (IsBetweenMessages seen × (sent ≡ [])) ⊎ IsCut seen sent
 open_rest heads seen sent true e short is_open none = inl ((short, heads.blank seen e), none)
 open_rest heads seen sent false e short is_open none = inr (inl (short, is_open, heads.not_blank seen e, none))
 

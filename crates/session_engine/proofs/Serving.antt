@@ -30,7 +30,7 @@ use Rattle.session_engine.specs.declared.sessions.Next.TheVariants as next
 use Rattle.task_forms.specs.declared.tasks.Plan.{Plan}
 use Rattle.session_engine.specs.Plans.{TaskPlans, plans_of}
 use Rattle.session_engine.specs.States.{SessionState}
-use Rattle.session_engine.specs.Finishing.{Finishes, Stops}
+use Rattle.session_engine.specs.Finishing.{Finishes, WritesStop}
 use Rattle.session_engine.specs.Seen.{Answers, RanOut, Settles, NextSees, Replies, Serves, IfWorn, Standing}
 use Rattle.session_engine.proofs.Ends.{answers_none, answers_one, answers_then, answers_more, settles_at, settles_last, settles_then, no_exchange, served_told}
 use Rattle.http_messages.specs.declared.limits.TheConstants.{MESSAGE_LIMIT}
@@ -320,7 +320,7 @@ module _ (laws : ReadStays) (plans : TaskPlans) (old new later : Standing) (now 
       → first + length (seen ++ (others ++ r.others)) ≡ last_number
   at_number first stands seen mine others r = ap (λ (k : List Entry). first + length k) (sym (append_assoc seen others r.others)) ∙ r.worn tt
 
-  pub serve_worn : (result : SessionEnd) → Stops x y result
+  pub serve_worn : (result : SessionEnd) → WritesStop x y result
       → ((first : ℕ) (world : World) (seen mine : List Entry) → new first world seen mine → Refuses (later first world) first seen mine desk.Worn)
       → (first : ℕ) (world : World) (seen mine : List Entry) → old first world seen mine → Serves plans (later first world) first seen mine t u w y now.answered result
   unfolding stood_refused

@@ -9,17 +9,17 @@ use Rattle.http_messages.specs.declared.framings.HeadFault.{HeadFault}
 use Rattle.http_messages.specs.declared.framings.HeadFault.TheVariants.{Host, TwoFramings, BadCoding, UnknownCoding, BadLength, LongBody, Expectation}
 use Rattle.http_model.specs.Framings.{codings_of, lengths_of, is_none, size_of, breaks_host, has_two_framings, has_bad_coding, has_unknown_coding, has_bad_length, has_other_expectation, framing_of}
 use Rattle.http_messages.specs.declared.limits.TheConstants.{BODY_LIMIT}
-use Rattle.http_bodies.specs.Body.{FitsLimit}
+use Rattle.http_bodies.specs.Body.{FitsBodyLimit}
 
 abbrev Fits : Result Framing HeadFault → Type 0
-Fits (Ok framing) = FitsLimit framing
+Fits (Ok framing) = FitsBodyLimit framing
 Fits (Err fault) = ⊤
 
 fault_or : (breaks : Bool) (fault : HeadFault) (r : Result Framing HeadFault) → Fits r → Fits (if breaks then Err fault else r)
 fault_or true fault r h = tt
 fault_or false fault r h = h
 
-framed : (codings none : Bool) (n : ℕ) → (none ≡ false → n ≤ BODY_LIMIT) → FitsLimit (if codings then Chunked else (if none then Empty else Length n))
+framed : (codings none : Bool) (n : ℕ) → (none ≡ false → n ≤ BODY_LIMIT) → FitsBodyLimit (if codings then Chunked else (if none then Empty else Length n))
 framed true none n h = tt
 framed false true n h = tt
 framed false false n h = h refl
@@ -39,5 +39,5 @@ result_fits m =
     (fault_or (has_unknown_coding m) UnknownCoding _ (fault_or (has_bad_length m) BadLength _
     (sized (not (is_none (codings_of m))) (is_none (lengths_of m)) (nat_lt BODY_LIMIT (size_of (lengths_of m))) (has_other_expectation m) (size_of (lengths_of m)) refl)))))
 
-pub framing_fits : (m : Message) (framing : Framing) → framing_of m ≡ Ok framing → FitsLimit framing
+pub framing_fits : (m : Message) (framing : Framing) → framing_of m ≡ Ok framing → FitsBodyLimit framing
 framing_fits m framing e = subst Fits e (result_fits m)

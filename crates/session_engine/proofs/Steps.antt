@@ -29,7 +29,7 @@ use Rattle.session_engine.specs.declared.sessions.Step.{Step}
 use Rattle.session_engine.specs.declared.sessions.Step.TheVariants as step
 use Rattle.session_engine.specs.Plans.{TaskPlans}
 use Rattle.session_engine.specs.States.{SessionState}
-use Rattle.session_engine.specs.Finishing.{Refuses}
+use Rattle.session_engine.specs.Finishing.{WritesRefusal}
 use Rattle.session_engine.specs.Seen.{TakesMessage, Answers, RanOut, EndOn, IsStable, Settles, StepSees, Replies}
 use Rattle.session_engine.proofs.Heads.{interim_same}
 use Rattle.http_messages.specs.declared.limits.TheConstants.{MESSAGE_LIMIT}
@@ -123,7 +123,7 @@ early_refused a reason.BadChunk early head_only h = inr (h.0, h.1, Chunked, h.2,
 early_refused a reason.LargeBody early head_only h = inr (h.0, h.1, Chunked, h.2, h.4)
 
 pub step_refused : (plans : TaskPlans) (old now : SessionState) (t u : SourceTold) (w x y : SinkTold) (why : RefusedRest) (head_only : Bool) (end : SessionEnd)
-    → TakesMessage old.buffer now.buffer t u w x (found.Refused why head_only) → Refuses (refusal_of why) head_only x y end → now.answered ≡ old.answered
+    → TakesMessage old.buffer now.buffer t u w x (found.Refused why head_only) → WritesRefusal (refusal_of why) head_only x y end → now.answered ≡ old.answered
     → StepSees plans old now t u w y (step.Ended end)
 step_refused plans old now t u w x y why head_only (Refused s) h r e = record {
   bytes = h.bytes;

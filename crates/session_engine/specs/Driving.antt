@@ -57,13 +57,13 @@ pub record IsOver (plans : TaskPlans) (bytes : List ℕ) (entries : List Entry) 
 -- ---- the calls between them
 
 -- a call of `next`
-abbrev pub Sees : TaskPlans → Connection → Connection → Next → Type 0
-Sees plans old new result =
+abbrev pub CallsNext : TaskPlans → Connection → Connection → Next → Type 0
+CallsNext plans old new result =
     NextSees plans old.session new.session (source_told old.source) (source_told new.source) (sink_told old.sink) (sink_told new.sink) result
 
 -- a call of `send` with that reply
-abbrev pub Sends : Reply → Connection → Connection → Option SessionEnd → Type 0
-Sends r old new end = IfSome old.session.pending (λ p. Replies p r old.session new.session (sink_told old.sink) (sink_told new.sink) end)
+abbrev pub CallsSend : Reply → Connection → Connection → Option SessionEnd → Type 0
+CallsSend r old new end = IfSome old.session.pending (λ p. Replies p r old.session new.session (sink_told old.sink) (sink_told new.sink) end)
 
 -- the text for want of memory was written
 abbrev pub SaysOut : Connection → Connection → Type 0
@@ -89,22 +89,22 @@ pub record SessionsGoOn : Type 0 where
       → c.session ≡ record { answered = 0; buffer = []; pending = None } → IsBetweenTwo plans bytes [] c
   -- a call of `next` comes to a task
   pub asks : (plans : TaskPlans) (bytes : List ℕ) (entries : List Entry) (old new : Connection) (t : Task)
-      → IsBetweenTwo plans bytes entries old → Sees plans old new (next.Task t) → IsAtTask plans bytes entries t new
-  pub waits : (plans : TaskPlans) (old new : Connection) (t : Task) → Sees plans old new (next.Task t) → HasPending old new
+      → IsBetweenTwo plans bytes entries old → CallsNext plans old new (next.Task t) → IsAtTask plans bytes entries t new
+  pub waits : (plans : TaskPlans) (old new : Connection) (t : Task) → CallsNext plans old new (next.Task t) → HasPending old new
   -- a call of `next` ends the session, with all of its texts
   pub ends : (plans : TaskPlans) (bytes : List ℕ) (entries : List Entry) (old new : Connection) (end : SessionEnd) → IsMemoryEnd end → end ≢ NoMemory
-      → IsBetweenTwo plans bytes entries old → Sees plans old new (next.Ended end) → IsOver plans bytes entries end new
+      → IsBetweenTwo plans bytes entries old → CallsNext plans old new (next.Ended end) → IsOver plans bytes entries end new
   -- it ends for want of memory, and then the text that says so is written
   pub runs_out : (plans : TaskPlans) (bytes : List ℕ) (entries : List Entry) (old mid new : Connection)
-      → IsBetweenTwo plans bytes entries old → Sees plans old mid (next.Ended NoMemory) → new.source ≡ mid.source → new.session ≡ mid.session → SaysOut mid new
+      → IsBetweenTwo plans bytes entries old → CallsNext plans old mid (next.Ended NoMemory) → new.source ≡ mid.source → new.session ≡ mid.session → SaysOut mid new
       → IsOver plans bytes entries NoMemory new
   -- the reply of the task's entry is sent, and the next message is awaited
   pub answered : (plans : TaskPlans) (bytes : List ℕ) (entries : List Entry) (t : Task) (old new : Connection) (e : Entry) (r : Reply)
-      → IsAtTask plans bytes entries t old → IsEntryOf plans t r e → new.source ≡ old.source → Sends r old new None
+      → IsAtTask plans bytes entries t old → IsEntryOf plans t r e → new.source ≡ old.source → CallsSend r old new None
       → IsBetweenTwo plans bytes (entries ++ e ∷ []) new
   -- the reply of the task's entry is sent, and closes the connection
   pub closed : (plans : TaskPlans) (bytes : List ℕ) (entries : List Entry) (t : Task) (old new : Connection) (e : Entry) (r : Reply)
-      → IsAtTask plans bytes entries t old → IsEntryOf plans t r e → new.source ≡ old.source → Sends r old new (Some Closed)
+      → IsAtTask plans bytes entries t old → IsEntryOf plans t r e → new.source ≡ old.source → CallsSend r old new (Some Closed)
       → IsOver plans bytes (entries ++ e ∷ []) Closed new
   -- in place of the reply the text for want of memory is written
   pub task_runs_out : (plans : TaskPlans) (bytes : List ℕ) (entries : List Entry) (t : Task) (old new : Connection)

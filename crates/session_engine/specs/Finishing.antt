@@ -10,14 +10,14 @@ use Rattle.http_messages.specs.ReplyText.{reply_text, unavailable_text, stop_tex
 use Rattle.http_messages.specs.declared.ends.SessionEnd.{SessionEnd}
 use Rattle.http_messages.specs.declared.ends.SessionEnd.TheVariants.{Closed, Refused, CutShort, ReadFault, WriteFault, NoMemory, Worn}
 
-abbrev pub Refuses : Reply → Bool → SinkTold → SinkTold → SessionEnd → Type 0
-Refuses reply head_only sink now (Refused s) = Appends sink.written now.written (reply_text reply head_only true) × (s ≡ reply.status)
-Refuses reply head_only sink now WriteFault = AppendsFront sink.written now.written (reply_text reply head_only true)
-Refuses reply head_only sink now NoMemory = now.written ≡ sink.written
-Refuses reply head_only sink now Closed = ⊥
-Refuses reply head_only sink now CutShort = ⊥
-Refuses reply head_only sink now ReadFault = ⊥
-Refuses reply head_only sink now Worn = ⊥
+abbrev pub WritesRefusal : Reply → Bool → SinkTold → SinkTold → SessionEnd → Type 0
+WritesRefusal reply head_only sink now (Refused s) = Appends sink.written now.written (reply_text reply head_only true) × (s ≡ reply.status)
+WritesRefusal reply head_only sink now WriteFault = AppendsFront sink.written now.written (reply_text reply head_only true)
+WritesRefusal reply head_only sink now NoMemory = now.written ≡ sink.written
+WritesRefusal reply head_only sink now Closed = ⊥
+WritesRefusal reply head_only sink now CutShort = ⊥
+WritesRefusal reply head_only sink now ReadFault = ⊥
+WritesRefusal reply head_only sink now Worn = ⊥
 
 abbrev pub RefuseCause : SinkTold → SinkTold → SessionEnd → Type 0
 RefuseCause sink now WriteFault = Rose sink.faults now.faults
@@ -40,14 +40,14 @@ Finishes WriteFault sink now result = (result ≡ WriteFault) × (now.written �
 Finishes Worn sink now result = (result ≡ Worn) × (now.written ≡ sink.written)
 
 -- the last text where the desk is worn
-abbrev pub Stops : SinkTold → SinkTold → SessionEnd → Type 0
-Stops sink now Worn = Appends sink.written now.written (stop_text stop.Worn)
-Stops sink now WriteFault = AppendsFront sink.written now.written (stop_text stop.Worn)
-Stops sink now Closed = ⊥
-Stops sink now (Refused s) = ⊥
-Stops sink now CutShort = ⊥
-Stops sink now ReadFault = ⊥
-Stops sink now NoMemory = ⊥
+abbrev pub WritesStop : SinkTold → SinkTold → SessionEnd → Type 0
+WritesStop sink now Worn = Appends sink.written now.written (stop_text stop.Worn)
+WritesStop sink now WriteFault = AppendsFront sink.written now.written (stop_text stop.Worn)
+WritesStop sink now Closed = ⊥
+WritesStop sink now (Refused s) = ⊥
+WritesStop sink now CutShort = ⊥
+WritesStop sink now ReadFault = ⊥
+WritesStop sink now NoMemory = ⊥
 
 -- a count of the sink where only the last text was written
 abbrev pub FinishCause : SinkTold → SinkTold → SessionEnd → SessionEnd → Type 0

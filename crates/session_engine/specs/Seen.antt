@@ -18,7 +18,7 @@ use Rattle.http_messages.specs.ReplyText.{reply_text}
 use Rattle.http_model.specs.Framings.{closes, interim_of, is_head}
 use Rattle.http_model.specs.Bodies.{ReadsBody, IsCutBody, IsBadChunked, IsLargeChunked}
 use Rattle.http_model.specs.Requests.{ReadsMessage}
-use Rattle.http_model.specs.Rests.{IsBetween, IsRefused, IsCut, IsEarly}
+use Rattle.http_model.specs.Rests.{IsBetweenMessages, IsRefused, IsCut, IsEarly}
 use Rattle.http_model.specs.Exchanges.{planned_task, Exchange, Runs, StaysOpen, LastCloses, text_of, entries_of}
 use Rattle.http_model.specs.Served.{Served, RunsOut, IsProperPrefix}
 use Rattle.world_cells.specs.World.{World}
@@ -43,10 +43,10 @@ use Rattle.session_engine.specs.States.{SessionState}
 -- what stands at the front of what was seen, with what was sent for it
 abbrev pub MessageOn : List ℕ → Option (List ℕ) → List ℕ → List ℕ → Taken → Type 0
 MessageOn seen left now sent (found.Whole m) = ReadsMessage seen m now × (sent ≡ interim_of m)
-MessageOn seen left now sent found.End = IsBetween seen × IsAtEnd left × (sent ≡ [])
+MessageOn seen left now sent found.End = IsBetweenMessages seen × IsAtEnd left × (sent ≡ [])
 MessageOn seen left now sent found.CutShort = IsCut seen sent × IsAtEnd left
 MessageOn seen left now sent (found.Refused why head_only) = IsRefused seen why sent head_only
-MessageOn seen left now sent found.ReadFault = (IsBetween seen × (sent ≡ [])) ⊎ IsCut seen sent
+MessageOn seen left now sent found.ReadFault = (IsBetweenMessages seen × (sent ≡ [])) ⊎ IsCut seen sent
 MessageOn seen left now sent found.WriteFault = (early : List ℕ) × IsEarly seen early × IsProperPrefix sent early
 MessageOn seen left now sent found.NoMemory = IsEarly seen sent
 

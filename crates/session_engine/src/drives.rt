@@ -1,7 +1,7 @@
 ghost use Rattle.std.specs.Prelude.{◌≡◌, ◌≤◌, [], None};
 ghost use Rattle.task_forms.specs.declared.tasks.Task.{Task as StoreTask};
 ghost use Rattle.session_engine.specs.Seen.{ServesAll, ServesEnd, driven_by, EndCause};
-ghost use Rattle.session_engine.specs.Finishing.{Finishes, FinishCause, Stops, StopCause};
+ghost use Rattle.session_engine.specs.Finishing.{Finishes, FinishCause, WritesStop, StopCause};
 ghost use Rattle.http_messages.specs.declared.limits.TheConstants.{MESSAGE_LIMIT};
 
 use crate::{Limits, Next, Session};
@@ -49,7 +49,7 @@ fn finish<K: Sink>(end: SessionEnd, sink: &mut K) -> SessionEnd
 
 /// Writes the text for a worn desk.
 fn stop<K: Sink>(sink: &mut K) -> SessionEnd
-    ensures sends { Stops (K.told sink.old) (K.told sink.new) result }
+    ensures sends { WritesStop (K.told sink.old) (K.told sink.new) result }
     ensures cause { StopCause (K.told sink.old) (K.told sink.new) result }
 {
     match send_stop(Stop::Worn, sink) {

@@ -2,7 +2,7 @@ ghost use Rattle.std.specs.Prelude.{◌≡◌, [], if◌then◌else◌};
 ghost use Rattle.outer_ends.specs.Causes.{HasCause};
 ghost use Rattle.outer_ends.specs.Streams.{Sends};
 ghost use Rattle.http_messages.specs.ReplyText.{interim_text};
-ghost use Rattle.http_bodies.specs.Body.{FitsLimit};
+ghost use Rattle.http_bodies.specs.Body.{FitsBodyLimit};
 ghost use Rattle.session_engine.specs.Seen.{TakesMessage, TakesRest, TakenCause, RestCause};
 
 use http_bodies::{BodyEnd, take_body};
@@ -47,7 +47,7 @@ fn take_rest<S: Source>(
     head: Message,
     framing: Framing,
 ) -> Taken
-    requires { FitsLimit framing }
+    requires { FitsBodyLimit framing }
     ensures takes { TakesRest head framing buffer.old buffer.new (S.told source.old) (S.told source.new) result }
     ensures cause { RestCause (S.told source.old) (S.told source.new) result }
 {

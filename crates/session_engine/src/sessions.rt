@@ -2,7 +2,7 @@ ghost use Rattle.std.specs.Prelude.{◌≡◌, ◌<◌, ◌≤◌, [], IfOk, IfS
 ghost use Rattle.http_model.specs.Refusals.{refusal_of, code_of};
 ghost use Rattle.session_engine.specs.Plans.{plans_of};
 ghost use Rattle.session_engine.specs.Seen.{StepSees, StepCause, NextSees, NextServes, NextCause, Replies, ReplyCause, FitStep, FitNext};
-ghost use Rattle.session_engine.specs.Finishing.{Refuses, RefuseCause};
+ghost use Rattle.session_engine.specs.Finishing.{WritesRefusal, RefuseCause};
 ghost use Rattle.http_messages.specs.declared.limits.TheConstants.{MESSAGE_LIMIT};
 
 use crate::Limits;
@@ -101,7 +101,7 @@ fn refusal_reply(alloc: Global, why: RefusedRest) -> Result<Reply, NoMemory>
 
 /// Writes the reply to a rest that is refused.
 fn refuse<K: Sink>(alloc: Global, why: RefusedRest, head_only: bool, sink: &mut K) -> SessionEnd
-    ensures sends { Refuses (refusal_of why) head_only (K.told sink.old) (K.told sink.new) result }
+    ensures sends { WritesRefusal (refusal_of why) head_only (K.told sink.old) (K.told sink.new) result }
     ensures cause { RefuseCause (K.told sink.old) (K.told sink.new) result }
 {
     match refusal_reply(alloc, why) {
