@@ -28,11 +28,11 @@ use Rattle.store_model.specs.Reach.{is_row_in, linked_keys, reach_operation}
 use Rattle.view_reads.specs.Recording.{Recording}
 use Rattle.ident_rules.specs.declared.stops.Stop.{Stop}
 use Rattle.ident_rules.specs.declared.stops.Stop.TheVariants.{Because, NoMemory}
-use Rattle.row_change.specs.declared.places.There.TheVariants as there
+use Rattle.row_change.specs.declared.places.MayLinkTo.TheVariants as there
 use Rattle.row_change.specs.Trial.{IsOutcome, read_of, ReadsInReach}
 use Rattle.trial_steps.specs.Steps.{StandsBehind}
 use Rattle.trial_steps.specs.Steps.{LooksAt, Sees, RefusesOr, LeadsOn}
-use Rattle.row_change.specs.Steps.{is_there}
+use Rattle.row_change.specs.Places.{may_link}
 use Rattle.row_change.specs.Creating.{refuse_id, is_looked_for, next_after, with_counter}
 use Rattle.trial_steps.specs.StepLaws.{row_in_left, row_in_right}
 use Rattle.row_change.proofs.NewIds.{new_free}
@@ -75,7 +75,7 @@ last_one (Some d) = refl
 module _ (schema : Schema) (now : World) (lids : Lids) (kind : ℕ) (id lid : Option (List ℕ)) (values : List AttrValue) (links : List (ℕ × List Member)) where
   -- the linkages, where the id of the new row is x
   abbrev links_refused : List ℕ → Lids → Option Refusal
-  links_refused x bound = refuse_links (is_there (there.AtRowOr (record { kind = kind; id = x })) now) bound (relationships_of schema kind) links
+  links_refused x bound = refuse_links (may_link (there.AtRowOr (record { kind = kind; id = x })) now) bound (relationships_of schema kind) links
 
   pub refused_lid : is_bound lids kind lid ≡ true → refused schema now lids (Create kind id lid values links) ≡ Some (at_pointer code.LidBound (codes "/data/lid"))
   refused_lid is = rw is refl
@@ -88,7 +88,7 @@ module _ (schema : Schema) (now : World) (lids : Lids) (kind : ℕ) (id lid : Op
   refused_id is e told = after_lid is ∙ ap (λ o. first_of (o ∷ links_refused (created_id now kind id) (bind lids kind lid (created_id now kind id)) ∷ [])) told
 
   pub by_links : (x : List ℕ) (bound : Lids) → is_bound lids kind lid ≡ false → refuse_id now kind id ≡ None → x ≡ created_id now kind id → bound ≡ bind lids kind lid x
-      → refused schema now lids (Create kind id lid values links) ≡ refuse_links (is_there (there.AtRowOr (record { kind = kind; id = x })) now) bound (relationships_of schema kind) links
+      → refused schema now lids (Create kind id lid values links) ≡ refuse_links (may_link (there.AtRowOr (record { kind = kind; id = x })) now) bound (relationships_of schema kind) links
   by_links x bound is none x_is bound_is =
       after_lid is
       ∙ ap (λ o. first_of (o ∷ links_refused (created_id now kind id) (bind lids kind lid (created_id now kind id)) ∷ [])) none
@@ -130,7 +130,7 @@ Puts schema next row before after =
 module _ {V : Type 0} (schema : Schema) (at : List ℕ) (lids : Lids) (kind : ℕ) (id lid : Option (List ℕ)) (values : List AttrValue) (links : List (ℕ × List Member)) (w now : World) where
   pub told_created : (before : List Written) (after : Recording V) (x : List ℕ) (next : Option ℕ) (bound : Lids) (row : Row)
       → IsValid schema now → is_bound lids kind lid ≡ false → refuse_id now kind id ≡ None → x ≡ created_id now kind id → next ≡ next_after now kind id → bound ≡ bind lids kind lid x
-      → refuse_links (is_there (there.AtRowOr (record { kind = kind; id = x })) now) bound (relationships_of schema kind) links ≡ None
+      → refuse_links (may_link (there.AtRowOr (record { kind = kind; id = x })) now) bound (relationships_of schema kind) links ≡ None
       → row ≡ record { key = record { kind = kind; id = x }; values = values; links = set_links bound (empty_links (relationships_of schema kind)) links }
       → Puts schema next row before after.writes → Leads (cell_at schema w) before (cell_at schema now)
       → IsOutcome schema at (apply schema now (Create kind id lid values links) lids) (read.Good (Some (record { kind = kind; id = x }))) bound w after

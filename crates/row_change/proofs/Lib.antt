@@ -1,6 +1,3 @@
-pub mod Backs
-pub mod Leading
-pub mod Rewriting
 pub mod Referring
 pub mod Removing
 pub mod Targets
@@ -11,4 +8,5 @@ pub mod LinkSteps
 pub mod NewIds
 pub mod RewriteOutcomes
 pub mod MemberSteps
+pub mod MemberChanges
 pub mod CreateOutcomes

@@ -9,16 +9,16 @@ use Rattle.task_forms.specs.declared.operations.Member.{Member}
 use Rattle.error_objects.specs.declared.codes.Code.TheVariants as code
 use Rattle.error_objects.specs.Refusals.{at_pointer}
 use Rattle.store_model.specs.Change.{Lids, key_of, refuse_named, refuse_member, member_pointer, name_pointer, when}
-use Rattle.row_change.specs.declared.places.There.{There}
-use Rattle.row_change.specs.declared.places.There.TheVariants as there
-use Rattle.row_change.specs.Steps.{is_there}
+use Rattle.row_change.specs.declared.places.MayLinkTo.{MayLinkTo}
+use Rattle.row_change.specs.declared.places.MayLinkTo.TheVariants as there
+use Rattle.row_change.specs.Places.{may_link}
 
-pub there_row : (t : There) (now : World) (key : Key) (result : Result Bool NoMemory) → t ≡ there.AtRow → IfOk result (λ b. b ≡ has_row now key) → IfOk result (λ b. b ≡ is_there t now key)
-there_row t now key result is h = subst (λ (x : There). IfOk result (λ b. b ≡ is_there x now key)) (sym is) h
+pub there_row : (t : MayLinkTo) (now : World) (key : Key) (result : Result Bool NoMemory) → t ≡ there.AtRow → IfOk result (λ b. b ≡ has_row now key) → IfOk result (λ b. b ≡ may_link t now key)
+there_row t now key result is h = subst (λ (x : MayLinkTo). IfOk result (λ b. b ≡ may_link x now key)) (sym is) h
 
-pub there_own : (t : There) (own : Key) (now : World) (key : Key) (result : Result Bool NoMemory) → t ≡ there.AtRowOr own → same_key own key ≡ false → IfOk result (λ b. b ≡ has_row now key)
-    → IfOk result (λ b. b ≡ is_there t now key)
-there_own t own now key result is other h = subst (λ (x : There). IfOk result (λ b. b ≡ is_there x now key)) (sym is) (same result h)
+pub there_own : (t : MayLinkTo) (own : Key) (now : World) (key : Key) (result : Result Bool NoMemory) → t ≡ there.AtRowOr own → same_key own key ≡ false → IfOk result (λ b. b ≡ has_row now key)
+    → IfOk result (λ b. b ≡ may_link t now key)
+there_own t own now key result is other h = subst (λ (x : MayLinkTo). IfOk result (λ b. b ≡ may_link x now key)) (sym is) (same result h)
   where
     same : (r : Result Bool NoMemory) → IfOk r (λ b. b ≡ has_row now key) → IfOk r (λ b. b ≡ (same_key own key || has_row now key))
     same (Ok b) e = e ∙ sym (ap (λ s. s || has_row now key) other)

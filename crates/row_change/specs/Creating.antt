@@ -1,12 +1,13 @@
 -- The id of a new row, and what is written with the row.
 use Rattle.std.specs.Prelude.{◌≡◌, ℕ, ◌+◌, ◌==◌, ◌&&◌, Bool, List, [], ◌∷◌, codes, is_some, is_none, Option, Some, None}
 use Rattle.world_cells.specs.declared.keys.CellKey.{CellKey}
+use Rattle.world_cells.specs.declared.rows.Row.{Row}
 use Rattle.world_cells.specs.World.{World, has_row, next_id}
 use Rattle.error_objects.specs.declared.codes.Code.TheVariants as code
 use Rattle.error_objects.specs.declared.refusals.Refusal.{Refusal}
 use Rattle.error_objects.specs.Refusals.{refusal, at_pointer}
 use Rattle.store_model.specs.Valid.{last_next}
-use Rattle.store_model.specs.Change.{first_of, when, created_id, created_key, with_next}
+use Rattle.store_model.specs.Change.{first_of, when, created_id, created_key, with_row, with_next}
 use Rattle.store_model.specs.Reach.{is_row_in, is_counter_of}
 
 -- the first refusal of the id of a new row, if any: the client's stands for a row, or the server has none left
@@ -34,3 +35,7 @@ IsNewId w kind id made = (made.0 ≡ created_id w kind id) × (made.1 ≡ next_a
 abbrev pub with_counter : World → ℕ → Option ℕ → World
 with_counter w kind None = w
 with_counter w kind (Some number) = with_next w kind number
+
+-- and with a new row
+abbrev pub with_created : Row → Option ℕ → World → World
+with_created row next w = with_counter (with_row w row) row.key.kind next

@@ -1,70 +1,80 @@
-ghost use Rattle.std.specs.Prelude.{◌≡◌, ◌≤◌, ℕ, List, if◌then◌else◌, IfOk, OnOk, IsFalse, [], ◌∷◌, ◌++◌, Some, None, length};
+ghost use Rattle.std.specs.Prelude.{◌≡◌, ℕ, List, if◌then◌else◌, IfOk, OnOk, IsFalse, [], Some, None};
 ghost use Rattle.resource_schema.specs.declared.schema.Schema.{Schema as Types};
 ghost use Rattle.resource_schema.specs.Kinds.{relationships_of};
-ghost use Rattle.task_forms.specs.declared.operations.Operation.TheVariants as operation;
-ghost use Rattle.error_objects.specs.Refusals.{refusal, at_pointer};
-ghost use Rattle.world_cells.specs.World.{World, row_at, cell_at};
+ghost use Rattle.error_objects.specs.Refusals.{refusal};
+ghost use Rattle.world_cells.specs.World.{World, cell_at};
 ghost use Rattle.world_cells.specs.Reads.{Leads};
-ghost use Rattle.store_model.specs.Change.{is_bound, bind, empty_links, set_links, refuse_links, with_row};
-ghost use Rattle.store_model.specs.Run.{refusal_under};
+ghost use Rattle.store_model.specs.Change.{is_bound, bind, empty_links, with_row};
 ghost use Rattle.store_model.specs.Reach.{is_row_in, linked_keys};
 ghost use Rattle.view_reads.specs.Recording.{Follows};
-ghost use Rattle.row_change.specs.Trial.{TellsChange, read_of, ReadsInReach};
-ghost use Rattle.trial_steps.specs.Steps.{LooksAt, Sees, RefusesOr, LeavesReads, LeadsOn};
-ghost use Rattle.row_change.specs.Steps.{is_there};
-ghost use Rattle.row_change.specs.Creating.{refuse_id, is_looked_for, IsNewId, with_counter};
+ghost use Rattle.trial_steps.specs.Steps.{LooksAt, Sees, RefusesOr, Tells, LeavesReads, LeadsOn};
+ghost use Rattle.row_writes.specs.WritesBacks.{Replaces};
+ghost use Rattle.row_change.specs.Told.{TellsAt};
+ghost use Rattle.row_change.specs.Trial.{TellsChange, ReadsInReach, read_of};
+ghost use Rattle.row_change.specs.Creating.{refuse_id, is_looked_for, IsNewId, with_counter, with_created};
+ghost use Rattle.row_change.specs.NewRows.{create_of, refuse_new, IsNewRow};
 
-use crate::finds::under;
-use crate::linkages::read_links;
-use crate::places::There;
-use crate::writes::put_row;
+use crate::finds::refuse_part;
+use crate::links::{GivenLinks, read_links};
+use crate::places::MayLinkTo;
+use crate::steps::Step;
 use error_objects::{Blame, Code, Refusal};
 use ident_rules::{Id, Key, List, NoMemory, Stop, Text};
 use local_ids::{Bind, LocalIds};
 use outer_ends::Work;
 use resource_schema::{AttrValue, Schema, copy_values};
+use row_writes::put_row;
 use std::alloc::Global;
 use task_forms::Member;
 use trial_steps::{has_row, next_number};
 use view_reads::{Recorder, View};
 use world_cells::{Cell, CellKey, Link, Row};
 
+/// A resource that is to be created.
+#[derive(Clone, Copy)]
+pub struct NewResource<'a> {
+    /// Its type.
+    pub kind: u32,
+    /// The id that the client gives, if it does.
+    pub id: Option<Id>,
+    /// Its local id, if it has one.
+    pub lid: &'a Option<Text>,
+    /// Its values, one for each attribute of its type.
+    pub values: &'a List<AttrValue>,
+    /// The members of links, each with the number of its relationship.
+    pub links: &'a List<(u32, List<Member>)>,
+}
+
 /// Creates a resource (JSON:API 1.1, "Creating Resources"). The key is that of the new row.
 ///
 /// It is refused, in this order, where its local id is bound already, where a row has the client's id, where no id is left for
 /// the server to give, and where a linkage is refused. A link may lead to the new row itself.
 pub fn create<V: View>(
-    alloc: Global,
-    schema: &Schema,
-    kind: u32,
-    id: Option<Id>,
-    lid: &Option<Text>,
-    values: &List<AttrValue>,
-    links: &List<(u32, List<Member>)>,
-    at: &str,
+    step: &Step<'_>,
     lids: &mut LocalIds,
+    new: &NewResource<'_>,
     recorder: &mut Recorder<V>,
     work: &mut Work,
 ) -> Result<Option<Key>, Stop<Refusal>>
     ensures reads { Follows recorder.old recorder.new }
-    ensures outcome { TellsChange schema.now V.cells at.now (operation.Create kind id lid.now values.now links.now) lids.old lids.new recorder.old recorder.new (read_of result) }
-    ensures reach { ReadsInReach schema.now V.cells (operation.Create kind id lid.now values.now links.now) lids.old recorder.old recorder.new }
+    ensures outcome { TellsChange step.now.schema.now V.cells step.now.pointer.now (create_of new.now) lids.old lids.new recorder.old recorder.new (read_of result) }
+    ensures reach { ReadsInReach step.now.schema.now V.cells (create_of new.now) lids.old recorder.old recorder.new }
 {
-    if is_bound(lids, kind, lid) {
-        let refusal = refuse_create(alloc, at, Code::LidBound, "/data/lid")?;
+    if is_bound(lids, new.kind, new.lid) {
+        let refusal = refuse_part(step, Code::LidBound, "/data/lid", "")?;
         return Err(Stop::Because(refusal));
     }
-    let (id, next) = match new_id(alloc, kind, id, at, recorder, work) {
+    let (id, next) = match new_id(step, new.kind, new.id, recorder, work) {
         Ok(made) => made,
         Err(stop) => return Err(stop),
     };
-    bind(alloc, lids, kind, lid, id)?;
-    let key = Key { kind, id };
-    let row = match new_row(alloc, schema, &key, values, links, at, lids, recorder, work) {
+    bind(step.alloc, lids, new.kind, new.lid, id)?;
+    let key = Key { kind: new.kind, id };
+    let row = match new_row(step, lids, &key, new, recorder, work) {
         Ok(row) => row,
         Err(stop) => return Err(stop),
     };
-    write_created(schema, next, row, recorder)?;
+    write_created(step.schema, next, row, recorder)?;
     Ok(Some(key))
 }
 
@@ -78,49 +88,36 @@ fn is_bound(lids: &LocalIds, kind: u32, lid: &Option<Text>) -> bool
     }
 }
 
-/// The refusal of a part of a new resource, seen from the request.
-fn refuse_create(alloc: Global, at: &str, code: Code, part: &str) -> Result<Refusal, NoMemory>
-    ensures { IfOk result (λ r. r ≡ refusal_under at.now (at_pointer code part.now)) }
-{
-    let pointer = under(alloc, at, part, "")?;
-    Ok(Refusal {
-        code,
-        blame: Blame::Pointer(pointer),
-    })
-}
-
 /// The id of a new row, and the next id of its type where that is to be written (JSON:API 1.1, "Client-Generated IDs").
 fn new_id<V: View>(
-    alloc: Global,
+    step: &Step<'_>,
     kind: u32,
     id: Option<Id>,
-    at: &str,
     recorder: &mut Recorder<V>,
     work: &mut Work,
 ) -> Result<(Id, Option<u64>), Stop<Refusal>>
     ensures looks { LooksAt (is_looked_for kind id) recorder.old recorder.new }
-    ensures sees { (schema : Types) → Sees schema V.cells recorder.old recorder.new (λ now. RefusesOr at.now (refuse_id now kind id) (IsNewId now kind id) result) }
+    ensures sees { Tells step.now.pointer.now V.cells recorder.old recorder.new (λ schema now. refuse_id now kind id) (λ now. IsNewId now kind id) result }
 {
     match id {
-        Some(id) => client_id(alloc, kind, id, at, recorder, work),
+        Some(id) => client_id(step, kind, id, recorder, work),
         None => server_id(kind, recorder, work),
     }
 }
 
 /// The id that the client gives, where no row has it.
 fn client_id<V: View>(
-    alloc: Global,
+    step: &Step<'_>,
     kind: u32,
     id: Id,
-    at: &str,
     recorder: &mut Recorder<V>,
     work: &mut Work,
 ) -> Result<(Id, Option<u64>), Stop<Refusal>>
     ensures looks { LooksAt (is_looked_for kind (Some id)) recorder.old recorder.new }
-    ensures sees { (schema : Types) → Sees schema V.cells recorder.old recorder.new (λ now. RefusesOr at.now (refuse_id now kind (Some id)) (IsNewId now kind (Some id)) result) }
+    ensures sees { Tells step.now.pointer.now V.cells recorder.old recorder.new (λ schema now. refuse_id now kind (Some id)) (λ now. IsNewId now kind (Some id)) result }
 {
     if has_row(&Key { kind, id }, recorder, work)? {
-        let refusal = refuse_create(alloc, at, Code::IdExists, "/data/id")?;
+        let refusal = refuse_part(step, Code::IdExists, "/data/id", "")?;
         Err(Stop::Because(refusal))
     } else {
         Ok((id, None))
@@ -186,29 +183,26 @@ fn bind_text(lids: &mut LocalIds, kind: u32, lid: Text, id: Id) -> Result<(), No
     }
 }
 
-/// A new row with these values and links.
+/// The row of a new resource at this key.
 fn new_row<V: View>(
-    alloc: Global,
-    schema: &Schema,
-    key: &Key,
-    values: &List<AttrValue>,
-    links: &List<(u32, List<Member>)>,
-    at: &str,
+    step: &Step<'_>,
     lids: &LocalIds,
+    key: &Key,
+    new: &NewResource<'_>,
     recorder: &mut Recorder<V>,
     work: &mut Work,
 ) -> Result<Row, Stop<Refusal>>
-    ensures looks { LooksAt (is_row_in (linked_keys lids.now links.now)) recorder.old recorder.new }
-    ensures sees { Sees schema.now V.cells recorder.old recorder.new (λ now. RefusesOr at.now (refuse_links (is_there (There.AtRowOr key.now) now) lids.now (relationships_of schema.now key.now.kind) links.now) (λ row. row ≡ record { key = key.now; values = values.now; links = set_links lids.now (empty_links (relationships_of schema.now key.now.kind)) links.now }) result) }
+    ensures looks { LooksAt (is_row_in (linked_keys lids.now new.now.links.now)) recorder.old recorder.new }
+    ensures sees { TellsAt step.now V.cells recorder.old recorder.new (refuse_new step.now.schema.now new.now key.now lids.now) (λ now. IsNewRow step.now.schema.now new.now key.now lids.now) result }
 {
-    let kind = key.kind;
-    let values = copy_values(alloc, values.as_slice())?;
-    let empty = empty_links(alloc, schema, kind)?;
-    let members = links.as_slice();
-    let there = There::AtRowOr(*key);
-    match read_links(
-        alloc, schema, kind, at, there, lids, empty, members, recorder, work,
-    ) {
+    let values = copy_values(step.alloc, new.values.as_slice())?;
+    let empty = empty_links(step.alloc, step.schema, key.kind)?;
+    let given = GivenLinks {
+        kind: key.kind,
+        to: MayLinkTo::AtRowOr(*key),
+        links: new.links.as_slice(),
+    };
+    match read_links(step, lids, &given, empty, recorder, work) {
         Ok(links) => Ok(Row {
             key: *key,
             values,
@@ -248,7 +242,7 @@ fn write_created<V: View>(
     recorder: &mut Recorder<V>,
 ) -> Result<(), NoMemory>
     ensures leaves { LeavesReads recorder.old recorder.new }
-    ensures leads { OnOk result (LeadsOn schema.now (λ now. (row_at now row.key ≡ None) × (length row.links ≤ length (relationships_of schema.now row.key.kind))) (λ now. with_counter (with_row now row) row.key.kind next) recorder.old.writes recorder.new.writes) }
+    ensures leads { OnOk result (LeadsOn schema.now (Replaces schema.now None row) (with_created row next) recorder.old.writes recorder.new.writes) }
 {
     let kind = row.key.kind;
     put_row(schema, None, row, recorder)?;

@@ -5,13 +5,13 @@ mod changes;
 mod creates;
 mod finds;
 mod linkages;
+mod links;
 mod members;
 mod places;
 mod references;
 mod removes;
-#[cfg(test)]
-mod tests;
+mod steps;
 mod updates;
-mod writes;
 
 pub use changes::change;
+pub use steps::Step;

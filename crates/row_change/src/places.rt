@@ -2,7 +2,7 @@ use ident_rules::Key;
 
 /// Where the members of a linkage may lead.
 #[derive(Clone, Copy, Debug)]
-pub enum There {
+pub enum MayLinkTo {
     /// Anywhere: the rows need not exist.
     Anywhere,
     /// To a row that exists.

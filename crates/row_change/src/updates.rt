@@ -1,24 +1,22 @@
 ghost use Rattle.std.specs.Prelude.{◌≡◌, ◌++◌, IfOk, slice_set};
-ghost use Rattle.task_forms.specs.declared.operations.Operation.TheVariants as operation;
-ghost use Rattle.task_forms.specs.Fit.{kind_of};
-ghost use Rattle.resource_schema.specs.Kinds.{relationships_of};
-ghost use Rattle.world_cells.specs.World.{has_row};
-ghost use Rattle.store_model.specs.Change.{refused, refuse_links, set_values, set_links};
+ghost use Rattle.store_model.specs.Change.{set_values};
 ghost use Rattle.store_model.specs.Reach.{is_row_in, target_keys, linked_keys};
 ghost use Rattle.view_reads.specs.Recording.{Follows};
-ghost use Rattle.row_change.specs.Trial.{TellsChange, read_of, ReadsInReach};
-ghost use Rattle.trial_steps.specs.Steps.{LooksAt, Sees, RefusesOr};
-ghost use Rattle.row_change.specs.Rewrites.{IsRewrite};
+ghost use Rattle.trial_steps.specs.Steps.{LooksAt};
+ghost use Rattle.row_change.specs.Told.{TellsAt};
+ghost use Rattle.row_change.specs.Trial.{TellsChange, ReadsInReach, read_of};
+ghost use Rattle.row_change.specs.Rewrites.{update_of, refuse_update, IsUpdated, refuse_links_of, AreNewLinks};
 
 use crate::finds::find_target;
-use crate::linkages::read_links;
-use crate::places::There;
-use crate::writes::put_row;
+use crate::links::{GivenLinks, read_links};
+use crate::places::MayLinkTo;
+use crate::steps::Step;
 use error_objects::Refusal;
 use ident_rules::{Key, List, NoMemory, Stop};
 use local_ids::LocalIds;
 use outer_ends::Work;
-use resource_schema::{AttrValue, Schema, copy_values};
+use resource_schema::{AttrValue, copy_values};
+use row_writes::put_row;
 use std::alloc::Global;
 use task_forms::{Member, Who};
 use view_reads::{Recorder, View};
@@ -33,79 +31,72 @@ pub struct Rewrite {
     pub new: Row,
 }
 
+/// New values and links of a resource.
+#[derive(Clone, Copy)]
+pub struct ResourceUpdate<'a> {
+    /// The resource.
+    pub who: &'a Who,
+    /// New values, each with the number of its attribute.
+    pub values: &'a List<(u32, AttrValue)>,
+    /// New members of links, each with the number of its relationship.
+    pub links: &'a List<(u32, List<Member>)>,
+}
+
 /// Changes attributes and links of a resource (JSON:API 1.1, "Updating Resources"). The key is that of the row.
 pub fn update<V: View>(
-    alloc: Global,
-    schema: &Schema,
-    who: &Who,
-    values: &List<(u32, AttrValue)>,
-    links: &List<(u32, List<Member>)>,
-    at: &str,
+    step: &Step<'_>,
     lids: &LocalIds,
+    update: &ResourceUpdate<'_>,
     recorder: &mut Recorder<V>,
     work: &mut Work,
 ) -> Result<Option<Key>, Stop<Refusal>>
     ensures reads { Follows recorder.old recorder.new }
-    ensures outcome { TellsChange schema.now V.cells at.now (operation.Update who.now values.now links.now) lids.now lids.now recorder.old recorder.new (read_of result) }
-    ensures reach { ReadsInReach schema.now V.cells (operation.Update who.now values.now links.now) lids.now recorder.old recorder.new }
+    ensures outcome { TellsChange step.now.schema.now V.cells step.now.pointer.now (update_of update.now) lids.now lids.now recorder.old recorder.new (read_of result) }
+    ensures reach { ReadsInReach step.now.schema.now V.cells (update_of update.now) lids.now recorder.old recorder.new }
 {
-    let rewrite = updated_row(alloc, schema, who, values, links, at, lids, recorder, work)?;
+    let rewrite = updated_row(step, lids, update, recorder, work)?;
     let Rewrite { old, new } = rewrite;
     let key = new.key;
-    put_row(schema, Some(&old), new, recorder)?;
+    put_row(step.schema, Some(&old), new, recorder)?;
     Ok(Some(key))
 }
 
 /// The row that an update changes, with its new values and links.
 fn updated_row<V: View>(
-    alloc: Global,
-    schema: &Schema,
-    who: &Who,
-    values: &List<(u32, AttrValue)>,
-    links: &List<(u32, List<Member>)>,
-    at: &str,
+    step: &Step<'_>,
     lids: &LocalIds,
+    update: &ResourceUpdate<'_>,
     recorder: &mut Recorder<V>,
     work: &mut Work,
 ) -> Result<Rewrite, Stop<Refusal>>
-    ensures looks { LooksAt (is_row_in (target_keys lids.now who.now ++ linked_keys lids.now links.now)) recorder.old recorder.new }
-    ensures sees { Sees schema.now V.cells recorder.old recorder.new (λ now. RefusesOr at.now (refused schema.now now lids.now (operation.Update who.now values.now links.now)) (λ made. IsRewrite now lids.now who.now (λ row. record row { values = set_values row.values values.now; links = set_links lids.now row.links links.now }) made.old made.new) result) }
+    ensures looks { LooksAt (is_row_in (target_keys lids.now update.now.who.now ++ linked_keys lids.now update.now.links.now)) recorder.old recorder.new }
+    ensures sees { TellsAt step.now V.cells recorder.old recorder.new (refuse_update update.now lids.now step.now.schema.now) (IsUpdated update.now lids.now) result }
 {
-    let old = find_target(alloc, at, who, lids, recorder, work)?;
-    let links = new_links(alloc, schema, who, &old, links, at, lids, recorder, work)?;
-    let new = with_values(alloc, &old, values.as_slice(), links)?;
+    let old = find_target(step, lids, update.who, recorder, work)?;
+    let links = new_links(step, lids, update, &old, recorder, work)?;
+    let new = with_values(step.alloc, &old, update.values.as_slice(), links)?;
     Ok(Rewrite { old, new })
 }
 
 /// The links of a row, those that are given in place of old ones.
 fn new_links<V: View>(
-    alloc: Global,
-    schema: &Schema,
-    who: &Who,
-    old: &Row,
-    links: &List<(u32, List<Member>)>,
-    at: &str,
+    step: &Step<'_>,
     lids: &LocalIds,
+    update: &ResourceUpdate<'_>,
+    old: &Row,
     recorder: &mut Recorder<V>,
     work: &mut Work,
 ) -> Result<List<Link>, Stop<Refusal>>
-    ensures looks { LooksAt (is_row_in (linked_keys lids.now links.now)) recorder.old recorder.new }
-    ensures sees { Sees schema.now V.cells recorder.old recorder.new (λ now. RefusesOr at.now (refuse_links (has_row now) lids.now (relationships_of schema.now (kind_of who.now.named)) links.now) (λ new. new ≡ set_links lids.now old.now.links links.now) result) }
+    ensures looks { LooksAt (is_row_in (linked_keys lids.now update.now.links.now)) recorder.old recorder.new }
+    ensures sees { TellsAt step.now V.cells recorder.old recorder.new (refuse_links_of update.now lids.now step.now.schema.now) (λ now. AreNewLinks update.now lids.now old.now) result }
 {
-    let copy = old.copy(alloc)?;
-    let kind = who.named.kind();
-    read_links(
-        alloc,
-        schema,
-        kind,
-        at,
-        There::AtRow,
-        lids,
-        copy.links,
-        links.as_slice(),
-        recorder,
-        work,
-    )
+    let copy = old.copy(step.alloc)?;
+    let given = GivenLinks {
+        kind: update.who.named.kind(),
+        to: MayLinkTo::AtRow,
+        links: update.links.as_slice(),
+    };
+    read_links(step, lids, &given, copy.links, recorder, work)
 }
 
 /// A row with new values at their attributes, and with these links. Its one error is want of memory.

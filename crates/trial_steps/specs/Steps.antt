@@ -44,6 +44,14 @@ RefusesOr at expected P (Ok x) = (expected ≡ None) × P x
 RefusesOr at expected P (Err (Because r)) = (e : Refusal) × (expected ≡ Some e) × (r ≡ refusal_under at e)
 RefusesOr at expected P (Err NoMemory) = ⊤
 
+-- what a step that may stop tells of every world now that may stand behind the view
+abbrev pub TellsIn : {V T : Type 0} → Schema → List ℕ → (V → Cells) → Recording V → Recording V → (World → Option Refusal) → (World → T → Type 0) → Result T (Stop Refusal) → Type 0
+TellsIn schema at cells before after expected P result = Sees schema cells before after (λ now. RefusesOr at (expected now) (P now) result)
+
+-- and under every schema
+abbrev pub Tells : {V T : Type 0} → List ℕ → (V → Cells) → Recording V → Recording V → (Schema → World → Option Refusal) → (World → T → Type 0) → Result T (Stop Refusal) → Type 0
+Tells at cells before after expected P result = (schema : Schema) → TellsIn schema at cells before after (expected schema) P result
+
 -- ---- steps that write
 
 -- The store and the reads stay, and writes that lead to a world that is told lead to another one.

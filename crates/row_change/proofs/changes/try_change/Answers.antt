@@ -10,10 +10,10 @@ pub returns-in-Update-clause-outcome : goal.returns-in-Update-clause-outcome
 returns-in-Update-clause-outcome g c w now behind leads = rw c.in-Update.is (c.update.ensures.outcome w now behind leads)
 
 pub returns-in-SetLinks-clause-outcome : goal.returns-in-SetLinks-clause-outcome
-returns-in-SetLinks-clause-outcome g c w now behind leads = rw c.in-SetLinks.is (c.set_members.ensures.outcome w now behind leads)
+returns-in-SetLinks-clause-outcome g c w now behind leads = rw c.in-SetLinks.is (c.change_link.ensures.outcome w now behind leads)
 
 pub returns-in-AddLinks-clause-outcome : goal.returns-in-AddLinks-clause-outcome
-returns-in-AddLinks-clause-outcome g c w now behind leads = rw c.in-AddLinks.is (c.add_members.ensures.outcome w now behind leads)
+returns-in-AddLinks-clause-outcome g c w now behind leads = rw c.in-AddLinks.is (c.change_link-in-AddLinks.ensures.outcome w now behind leads)
 
 pub returns-in-DropLinks-clause-outcome : goal.returns-in-DropLinks-clause-outcome
-returns-in-DropLinks-clause-outcome g c w now behind leads = rw c.in-DropLinks.is (c.drop_members.ensures.outcome w now behind leads)
+returns-in-DropLinks-clause-outcome g c w now behind leads = rw c.in-DropLinks.is (c.change_link-in-DropLinks.ensures.outcome w now behind leads)

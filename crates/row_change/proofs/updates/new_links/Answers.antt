@@ -7,5 +7,5 @@ use Rattle.row_change.proofs.updates.new_links.Goals as goal
 
 pub returns-clause-sees : goal.returns-clause-sees
 returns-clause-sees g c = λ w now behind leads.
-    judged_links c.args.schema.now c.args.at.now c.args.lids.now (has_row now) c.kind-kind.result (kind_of c.args.who.now.named) c.as_slice.result.now c.args.links.now c.in_ok-copy.copy.links c.args.old.now.links c.read_links.result
-    c.kind-kind.ensures c.as_slice.ensures (ap (λ (r : Row). r.links) c.in_ok-copy.ensures) (c.read_links.ensures.sees w now behind leads)
+    judged_links c.args.step.now.schema.now c.args.step.now.pointer.now c.args.lids.now (has_row now) c.kind.result (kind_of c.args.update.now.who.now.named) c.as_slice.result.now c.args.update.now.links.now c.in_ok-copy.copy.links c.args.old.now.links c.read_links.result
+    c.kind.ensures c.as_slice.ensures (ap (λ (r : Row). r.links) c.in_ok-copy.ensures) (c.read_links.ensures.sees w now behind leads)

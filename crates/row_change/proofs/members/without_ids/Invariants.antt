@@ -1,8 +1,0 @@
-use Rattle.std.proofs.Common.{◌≡◌, take}
-use Rattle.std.specs.Prelude.{not}
-use Rattle.std.specs.List.{filter, list_any}
-use Rattle.store_model.specs.Valid.{same_id}
-use Rattle.row_change.proofs.members.without_ids.Given as goal
-
-abbrev pub invariant-loop-id : goal.invariant-loop-id
-invariant-loop-id l = l.left.items ≡ filter (λ x. not (list_any (same_id x) l.dropped)) (take l.id-index l.ids)

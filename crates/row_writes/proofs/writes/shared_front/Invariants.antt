@@ -1,0 +1,13 @@
+use Rattle.std.proofs.Common.{◌≡◌, ◌≤◌, ◌-◌, length, take}
+use Rattle.row_writes.proofs.writes.shared_front.Given as goal
+
+-- the front so far
+abbrev pub invariant-loop-count : goal.invariant-loop-count
+invariant-loop-count l = record {
+  left : l.count ≤ length l.left;
+  right : l.count ≤ length l.right;
+  same : take l.count l.left ≡ take l.count l.right;
+}
+
+abbrev pub decreases-loop-count : goal.decreases-loop-count
+decreases-loop-count l = length l.left - l.count
