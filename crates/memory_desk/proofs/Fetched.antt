@@ -25,7 +25,8 @@ use Rattle.store_model.specs.Valid.{IsValid, IsLinkOf}
 use Rattle.store_model.specs.Pages.{rows_at, first_item}
 use Rattle.store_model.specs.Document.{row_document, linked_document}
 use Rattle.store_model.specs.Answer.{fetch_reply, document_reply, ok_reply, row_data}
-use Rattle.memory_desk.specs.Rows.{row_of, linked_id}
+use Rattle.memory_desk.specs.Rows.{linked_id}
+use Rattle.trial_steps.specs.Found.{row_of}
 
 pub row_of-cell : (o : Option Row) → row_of (option_map cell.Row o) ≡ o
 row_of-cell None = refl

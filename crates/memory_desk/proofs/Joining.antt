@@ -8,8 +8,7 @@ use Rattle.task_forms.specs.declared.tasks.Task.{Task}
 use Rattle.task_forms.specs.declared.tasks.Entry.{Entry}
 use Rattle.task_forms.specs.Meaning.{IsLawful, AreAnswers, world_after}
 use Rattle.task_forms.specs.Desks.{Joins}
-use Rattle.history_model.specs.Agreement.{one_more}
-use Rattle.history_model.specs.CommitLaws.{after_more}
+use Rattle.task_forms.specs.MeaningLaws.{after_more, one_more}
 use Rattle.store_model.specs.StoreMeaning.{meaning_of}
 use Rattle.memory_desk.specs.Answered.{desk_meaning}
 use Rattle.memory_desk.specs.Alone.{StandsAlone, IsDone}

@@ -27,7 +27,8 @@ use Rattle.store_model.specs.Answer.{answer, effect, done_reply}
 use Rattle.view_reads.specs.Recording.{Recording}
 use Rattle.row_change.specs.Trial.{IsOutcome, TellsChange}
 use Rattle.memory_desk.specs.Answered.{IsPlainForm, done_by}
-use Rattle.memory_desk.specs.Rows.{row_of, AreCellsOf}
+use Rattle.memory_desk.specs.Rows.{AreCellsOf}
+use Rattle.trial_steps.specs.Found.{row_of}
 use Rattle.memory_desk.proofs.Fetched.{row_of-cell}
 
 -- ---- outcomes

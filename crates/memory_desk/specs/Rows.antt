@@ -15,16 +15,6 @@ use Rattle.task_forms.specs.declared.tasks.ReplyForm.{ReplyForm}
 use Rattle.task_forms.specs.declared.tasks.Task.TheVariants.{Change}
 use Rattle.world_cells.specs.declared.rows.Link.{Link}
 use Rattle.world_cells.specs.declared.rows.Link.TheVariants.{One, Many}
-use Rattle.world_cells.specs.declared.rows.Row.{Row}
-use Rattle.world_cells.specs.declared.cells.Cell.{Cell}
-use Rattle.world_cells.specs.declared.cells.Cell.TheVariants as cell
-
--- the row in a cell
-abbrev pub row_of : Option Cell → Option Row
-row_of None = None
-row_of (Some (cell.Row row)) = Some row
-row_of (Some cell.Back) = None
-row_of (Some (cell.Counter n)) = None
 
 -- the id that a to-one link leads to
 abbrev pub linked_id : Link → Option (List ℕ)

@@ -4,7 +4,8 @@ ghost use Rattle.world_cells.specs.declared.keys.CellKey.TheVariants as cell_key
 ghost use Rattle.world_cells.specs.Reads.{overlay};
 ghost use Rattle.view_reads.specs.Merging.{nothing};
 ghost use Rattle.memory_desk.specs.Answered.{IsPlainForm, done_by};
-ghost use Rattle.memory_desk.specs.Rows.{row_of, IsTriedOne, IsDoneOne};
+ghost use Rattle.memory_desk.specs.Rows.{IsTriedOne, IsDoneOne};
+ghost use Rattle.trial_steps.specs.Found.{row_of};
 
 use crate::replies::done_reply;
 use error_objects::{Read, error_reply};
@@ -13,7 +14,7 @@ use ident_rules::{Key, NoMemory};
 use local_ids::LocalIds;
 use outer_ends::Work;
 use resource_schema::Schema;
-use row_change::change;
+use row_change::{Step, change};
 use std::alloc::Global;
 use task_forms::{Operation, ReplyForm};
 use view_reads::{CellMap, Recorder, View};
@@ -56,7 +57,12 @@ fn try_recorded<V: View>(
 {
     let mut lids = LocalIds::new(alloc);
     let mut work = Work::new();
-    match change(alloc, schema, operation, "", &mut lids, recorder, &mut work) {
+    let step = Step {
+        alloc,
+        schema,
+        pointer: "",
+    };
+    match change(&step, &mut lids, operation, recorder, &mut work) {
         Read::NoMemory => Err(NoMemory),
         Read::Refused(refusal) => {
             recorder.forget_writes();

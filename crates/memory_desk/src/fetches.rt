@@ -5,7 +5,7 @@ ghost use Rattle.memory_desk.specs.Answered.{IsAnsweredTarget};
 ghost use Rattle.memory_desk.specs.Rows.{IsFetched};
 
 use crate::documents::{linkage_text, not_found, null_text, ok_reply, row_text};
-use crate::rows::{link_of, linked_id, row_at};
+use crate::rows::{link_at, linked_id, row_at};
 use http_messages::Reply;
 use ident_rules::{Key, NoMemory};
 use outer_ends::Work;
@@ -43,7 +43,7 @@ fn linkage_reply<V: View>(
     let Some(row) = row_at(view, key, work) else {
         return not_found(alloc);
     };
-    match link_of(row, rel) {
+    match link_at(row, rel) {
         Some(link) => Ok(ok_reply(linkage_text(alloc, schema, row.key.kind, rel, link)?)),
         None => Ok(ok_reply(null_text(alloc)?)),
     }
@@ -64,7 +64,7 @@ fn related_reply<V: View>(
     let Some(row) = row_at(view, key, work) else {
         return not_found(alloc);
     };
-    let Some(id) = linked_id(link_of(row, rel)) else {
+    let Some(id) = linked_id(link_at(row, rel)) else {
         return Ok(ok_reply(null_text(alloc)?));
     };
     let to = Key {

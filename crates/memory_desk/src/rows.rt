@@ -2,7 +2,8 @@ ghost use Rattle.std.specs.Prelude.{◌≡◌, option_copied, unwrap_or};
 ghost use Rattle.world_cells.specs.World.{World, row_at, no_link, link_at};
 ghost use Rattle.resource_schema.specs.declared.schema.Schema.{Schema};
 ghost use Rattle.world_cells.specs.declared.keys.CellKey.TheVariants as cell_key;
-ghost use Rattle.memory_desk.specs.Rows.{row_of, linked_id, AreCellsOf};
+ghost use Rattle.memory_desk.specs.Rows.{linked_id, AreCellsOf};
+ghost use Rattle.trial_steps.specs.Found.{row_of};
 
 use ident_rules::{Id, Key};
 use outer_ends::Work;
@@ -27,7 +28,7 @@ pub fn row_at<'v, V: View>(view: &'v V, key: &Key, work: &mut Work) -> Option<&'
 }
 
 /// The link of a row's relationship; None, which stands for a link to nothing, where there is no such relationship.
-pub fn link_of(row: &Row, rel: u32) -> Option<&Link>
+pub fn link_at(row: &Row, rel: u32) -> Option<&Link>
     ensures { unwrap_or (option_copied result) no_link ≡ link_at row.now rel }
 {
     row.links.as_slice().get(rel as usize)

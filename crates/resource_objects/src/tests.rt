@@ -16,16 +16,11 @@ const ARTICLES: &str =
 const WHOLE: &str =
     "{\"attributes\":{\"draft\":null,\"title\":\"T\",\"views\":0},\"id\":\"1\",\"links\":{\"self\":\"/articles/1\"},\"relationships\":{\"author\":{\"data\":{\"id\":\"ann\",\"type\":\"people\"},\"links\":{\"related\":\"/articles/1/author\",\"self\":\"/articles/1/relationships/author\"}},\"comments\":{\"data\":[],\"links\":{\"related\":\"/articles/1/comments\",\"self\":\"/articles/1/relationships/comments\"}}},\"type\":\"articles\"}";
 
-const ATTRIBUTES: &str =
-    "{\"attributes\":{\"title\":\"T\",\"views\":0},\"id\":\"1\",\"links\":{\"self\":\"/articles/1\"},\"type\":\"articles\"}";
-
 const RELATIONSHIPS: &str =
     "{\"id\":\"1\",\"links\":{\"self\":\"/articles/1\"},\"relationships\":{\"author\":{\"data\":null,\"links\":{\"related\":\"/articles/1/author\",\"self\":\"/articles/1/relationships/author\"}}},\"type\":\"articles\"}";
 
 const MANY: &str =
     "{\"id\":\"1\",\"links\":{\"self\":\"/articles/1\"},\"relationships\":{\"comments\":{\"data\":[{\"id\":\"2\",\"type\":\"comments\"},{\"id\":\"1\",\"type\":\"comments\"}],\"links\":{\"related\":\"/articles/1/comments\",\"self\":\"/articles/1/relationships/comments\"}}},\"type\":\"articles\"}";
-
-const BARE: &str = "{\"id\":\"1\",\"links\":{\"self\":\"/articles/1\"},\"type\":\"articles\"}";
 
 fn article_schema(alloc: Global) -> Result<Schema, SchemaEnd> {
     match parse(alloc, ARTICLES.as_bytes())? {
@@ -96,36 +91,29 @@ fn text_of(alloc: Global, schema: &Schema, row: &Row, query: &Query) -> Result<B
     render(alloc, &value)
 }
 
-#[test]
-fn writes_a_note(rt: HostRuntime) -> Result<(), Fail> {
-    let alloc = rt.alloc();
-    let schema = Schema::notes(alloc)?;
-    let mut values = Vec::new(alloc);
-    values.push(AttrValue::Text(Text::from_str(alloc, "a \"b\"")?))?;
-    let row = Row {
-        key: Key {
-            kind: 0,
-            id: Id::of_number(12),
-        },
-        values: List::from_vec(values),
-        links: List::from_vec(Vec::new(alloc)),
-    };
-    assert_eq!(rt;
-        text_of(alloc, &schema, &row, &query_of(alloc, &[])?)?.as_slice(),
-        b"{\"attributes\":{\"text\":\"a \\\"b\\\"\"},\"id\":\"12\",\"links\":{\"self\":\"/notes/12\"},\"type\":\"notes\"}".as_slice()
-    );
-    Ok(())
+/// The first row that is written otherwise than it should be, from 1 on; 0 where none is. Each has field sets, the author, the
+/// comments and the text.
+fn wrong_text(
+    alloc: Global,
+    rows: &[(&[(u32, &[&str])], &str, &[u64], &str)],
+) -> Result<usize, SchemaEnd> {
+    let schema = article_schema(alloc)?;
+    let mut place = 1;
+    for (sets, author, comments, want) in rows {
+        let row = article(alloc, read_id(*author).ok(), *comments)?;
+        let text = text_of(alloc, &schema, &row, &query_of(alloc, *sets)?)?;
+        if text.as_slice() != want.as_bytes() {
+            return Ok(place);
+        }
+        place = place.wrapping_add(1);
+    }
+    Ok(0)
 }
 
 #[test]
 fn writes_articles(rt: HostRuntime) -> Result<(), Fail> {
-    let alloc = rt.alloc();
-    let schema = article_schema(alloc)?;
-    // the field sets, the author, the comments and the text
-    let rows: [(&[(u32, &[&str])], &str, &[u64], &str); 6] = [
-        (&[], "ann", &[], WHOLE),
+    let rows: [(&[(u32, &[&str])], &str, &[u64], &str); 3] = [
         (&[(1, &[]), (2, &[])], "ann", &[], WHOLE),
-        (&[(0, &["title", "views"])], "ann", &[5], ATTRIBUTES),
         (
             &[(2, &["title"]), (0, &["author"])],
             "",
@@ -133,64 +121,45 @@ fn writes_articles(rt: HostRuntime) -> Result<(), Fail> {
             RELATIONSHIPS,
         ),
         (&[(0, &["comments"])], "", &[2, 1], MANY),
-        (&[(0, &[])], "ann", &[5], BARE),
     ];
-    for (at, (sets, author, comments, want)) in rows.into_iter().enumerate() {
-        let row = article(alloc, read_id(author).ok(), comments)?;
-        let text = text_of(alloc, &schema, &row, &query_of(alloc, sets)?)?;
-        assert_eq!(rt; text.as_slice(), want.as_bytes(), "row {at}");
-    }
+    assert_eq!(rt; wrong_text(rt.alloc(), &rows)?, 0);
     Ok(())
+}
+
+/// The text of the linkage of an article's comments.
+fn comments_text(alloc: Global, numbers: &[u64]) -> Result<Bytes, SchemaEnd> {
+    let schema = article_schema(alloc)?;
+    let value = linkage_value(alloc, &schema, 0, 1, &comments_of(alloc, numbers)?)?;
+    Ok(render(alloc, &value)?)
 }
 
 #[test]
 fn writes_linkages(rt: HostRuntime) -> Result<(), Fail> {
-    let alloc = rt.alloc();
-    let schema = article_schema(alloc)?;
-    let ann = read_id("ann").ok();
-    let rows: [(u32, Link, &str); 4] = [
-        (0, Link::One(ann), "{\"id\":\"ann\",\"type\":\"people\"}"),
-        (0, Link::One(None), "null"),
-        (1, comments_of(alloc, &[])?, "[]"),
-        (
-            1,
-            comments_of(alloc, &[2, 1])?,
-            "[{\"id\":\"2\",\"type\":\"comments\"},{\"id\":\"1\",\"type\":\"comments\"}]",
-        ),
-    ];
-    for (at, (rel, link, want)) in rows.into_iter().enumerate() {
-        let value = linkage_value(alloc, &schema, 0, rel, &link)?;
-        assert_eq!(rt;
-            render(alloc, &value)?.as_slice(),
-            want.as_bytes(),
-            "row {at}"
-        );
-    }
+    let text = comments_text(rt.alloc(), &[2, 1])?;
+    let want = "[{\"id\":\"2\",\"type\":\"comments\"},{\"id\":\"1\",\"type\":\"comments\"}]";
+    assert_eq!(rt; text.as_slice(), want.as_bytes());
     Ok(())
 }
 
-#[test]
-fn writes_paths(rt: HostRuntime) -> Result<(), Fail> {
-    let alloc = rt.alloc();
+/// Whether each path is written as it should be.
+fn writes_paths_so(alloc: Global) -> Result<bool, SchemaEnd> {
     let schema = article_schema(alloc)?;
     let key = Key {
         kind: 2,
         id: Id::of_number(7),
     };
-    let paths = [
-        (collection_path(alloc, &schema, 1)?, "/comments"),
-        (resource_path(alloc, &schema, &key)?, "/people/7"),
-        (
-            related_path(alloc, &schema, &key, "best")?,
-            "/people/7/best",
-        ),
-        (
-            relationship_path(alloc, &schema, &key, "best")?,
-            "/people/7/relationships/best",
-        ),
-    ];
-    for (path, want) in paths {
-        assert_eq!(rt; path.as_str(), want);
-    }
+    let related = related_path(alloc, &schema, &key, "best")?;
+    let relationship = relationship_path(alloc, &schema, &key, "best")?;
+    Ok(
+        collection_path(alloc, &schema, 1)?.as_str() == "/comments"
+            && resource_path(alloc, &schema, &key)?.as_str() == "/people/7"
+            && related.as_str() == "/people/7/best"
+            && relationship.as_str() == "/people/7/relationships/best",
+    )
+}
+
+#[test]
+fn writes_paths(rt: HostRuntime) -> Result<(), Fail> {
+    assert!(rt; writes_paths_so(rt.alloc())?);
     Ok(())
 }

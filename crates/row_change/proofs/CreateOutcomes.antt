@@ -26,8 +26,8 @@ use Rattle.store_model.specs.Change.{Lids, Changed, first_of, refused, done, out
 use Rattle.store_model.specs.Run.{refusal_under}
 use Rattle.store_model.specs.Reach.{is_row_in, linked_keys, reach_operation}
 use Rattle.view_reads.specs.Recording.{Recording}
-use Rattle.ident_rules.specs.declared.stops.Stop.{Stop}
-use Rattle.ident_rules.specs.declared.stops.Stop.TheVariants.{Because, NoMemory}
+use Rattle.ident_rules.specs.declared.step_errors.StepError.{StepError}
+use Rattle.ident_rules.specs.declared.step_errors.StepError.TheVariants.{Because, NoMemory}
 use Rattle.row_change.specs.declared.places.MayLinkTo.TheVariants as there
 use Rattle.row_change.specs.Trial.{IsOutcome, read_of, ReadsInReach}
 use Rattle.trial_steps.specs.Steps.{StandsBehind}
@@ -51,7 +51,7 @@ told_refusal schema at operation lids new w now after e r is said =
     subst (λ (o : Option Refusal). IsOutcome schema at (outcome o (done schema now lids operation)) (read.Refused r) new w after) (sym is) said
 
 -- a step without a value, whose refusal is that of the operation
-pub told_stop : {V T : Type 0} (schema : Schema) (at : List ℕ) (operation : Operation) (lids new : Lids) (w now : World) (after : Recording V) (mine : Option Refusal) (P : T → Type 0) (stop : Stop Refusal)
+pub told_stop : {V T : Type 0} (schema : Schema) (at : List ℕ) (operation : Operation) (lids new : Lids) (w now : World) (after : Recording V) (mine : Option Refusal) (P : T → Type 0) (stop : StepError Refusal)
     → ((e : Refusal) → mine ≡ Some e → refused schema now lids operation ≡ Some e) → RefusesOr at mine P (Err stop)
     → IsOutcome schema at (apply schema now operation lids) (read_of {T = Option Key} (Err stop)) new w after
 told_stop schema at operation lids new w now after mine P (Because r) so told = told_refusal schema at operation lids new w now after told.0 r (so told.0 told.1) told.2

@@ -8,8 +8,8 @@ use Rattle.error_objects.specs.declared.refusals.Refusal.{Refusal}
 use Rattle.store_model.specs.Change.{first_of}
 use Rattle.store_model.specs.Reach.{is_row_in}
 use Rattle.view_reads.specs.Recording.{Recording}
-use Rattle.ident_rules.specs.declared.stops.Stop.{Stop}
-use Rattle.ident_rules.specs.declared.stops.Stop.TheVariants.{Because, NoMemory}
+use Rattle.ident_rules.specs.declared.step_errors.StepError.{StepError}
+use Rattle.ident_rules.specs.declared.step_errors.StepError.TheVariants.{Because, NoMemory}
 use Rattle.trial_steps.specs.Steps.{LooksAt, RefusesOr}
 use Rattle.trial_steps.specs.StepLaws.{looks_more, looks_rows_on, row_in_left}
 
@@ -63,7 +63,7 @@ pub first_before : (xs ys : List (Option Refusal)) (r : Refusal) → first_of xs
 first_before xs ys r e = first_told xs ys r e
 
 -- an answer without a value is passed on
-pub judges_stop : {T U : Type 0} (at : List ℕ) (mine whole : Option Refusal) (P : T → Type 0) (Q : U → Type 0) (stop : Stop Refusal) → ((r : Refusal) → mine ≡ Some r → whole ≡ Some r)
+pub judges_stop : {T U : Type 0} (at : List ℕ) (mine whole : Option Refusal) (P : T → Type 0) (Q : U → Type 0) (stop : StepError Refusal) → ((r : Refusal) → mine ≡ Some r → whole ≡ Some r)
     → RefusesOr at mine P (Err stop) → RefusesOr at whole Q (Err stop)
 judges_stop at mine whole P Q (Because r) more told = (told.0, more told.0 told.1, told.2)
 judges_stop at mine whole P Q NoMemory more told = tt
@@ -101,11 +101,11 @@ module _ {A : Type 0} (keys : List A → List Key) (splits : (xs ys : List A) �
 pub all_taken : {A : Type 0} (xs : List A) (i : ℕ) → i ≤ length xs → length xs ≤ i → take i xs ≡ xs
 all_taken xs i low high = let e : i ≡ length xs = omega arith in ap (λ n. take n xs) e ∙ take-length xs
 
-pub err_passed : {U : Type 0} (r : Result U (Stop Refusal)) (stop : Stop Refusal) → IsErr r → IsErrAnd r (λ e. e ≡ stop) → r ≡ Err stop
+pub err_passed : {U : Type 0} (r : Result U (StepError Refusal)) (stop : StepError Refusal) → IsErr r → IsErrAnd r (λ e. e ≡ stop) → r ≡ Err stop
 err_passed (Ok x) stop is h = cc is
 err_passed (Err e) stop is h = ap Err h
 
-pub judges_passed : {T U : Type 0} (at : List ℕ) (mine whole : Option Refusal) (P : T → Type 0) (Q : U → Type 0) (stop : Stop Refusal) (r : Result U (Stop Refusal)) → IsErr r → IsErrAnd r (λ e. e ≡ stop)
+pub judges_passed : {T U : Type 0} (at : List ℕ) (mine whole : Option Refusal) (P : T → Type 0) (Q : U → Type 0) (stop : StepError Refusal) (r : Result U (StepError Refusal)) → IsErr r → IsErrAnd r (λ e. e ≡ stop)
     → ((x : Refusal) → mine ≡ Some x → whole ≡ Some x) → RefusesOr at mine P (Err stop) → RefusesOr at whole Q r
 judges_passed {T} {U} at mine whole P Q stop r is passed more told =
-    subst (λ (x : Result U (Stop Refusal)). RefusesOr at whole Q x) (sym (err_passed r stop is passed)) (judges_stop at mine whole P Q stop more told)
+    subst (λ (x : Result U (StepError Refusal)). RefusesOr at whole Q x) (sym (err_passed r stop is passed)) (judges_stop at mine whole P Q stop more told)

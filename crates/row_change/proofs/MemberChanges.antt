@@ -10,7 +10,7 @@ use Rattle.task_forms.specs.declared.operations.Member.{Member}
 use Rattle.task_forms.specs.declared.operations.Who.{Who}
 use Rattle.task_forms.specs.declared.operations.Operation.{Operation}
 use Rattle.ident_rules.specs.declared.key.Key.{Key}
-use Rattle.ident_rules.specs.declared.stops.Stop.{Stop}
+use Rattle.ident_rules.specs.declared.step_errors.StepError.{StepError}
 use Rattle.store_model.specs.Change.{Lids, first_of, refused, done, refuse_target, refuse_member, refuse_linkage, named_row, named_ids, member_ids, append_new, on_row, on_link}
 use Rattle.store_model.specs.Reach.{is_row_in, target_keys, reach_operation}
 use Rattle.trial_steps.specs.Steps.{RefusesOr}
@@ -26,7 +26,7 @@ use Rattle.row_change.proofs.RewriteOutcomes.{first_alone}
 
 -- ---- what is told of a linkage, by what it is
 
-module _ (at : List ℕ) (lids : Lids) (linkage : Linkage) (t : MayLinkTo) (members : List Member) (now : World) (result : Result (List (List ℕ)) (Stop Refusal))
+module _ (at : List ℕ) (lids : Lids) (linkage : Linkage) (t : MayLinkTo) (members : List Member) (now : World) (result : Result (List (List ℕ)) (StepError Refusal))
     (to_is : linkage.to ≡ t) (pointer_is : linkage.pointer.now ≡ codes "/data") (members_are : linkage.members.now ≡ members) where
   pub told_joined : (old : List (List ℕ)) → RefusesOr at (refuse_joined linkage lids old now) (AreJoined linkage lids old) result
       → RefusesOr at (refuse_linkage (may_link t now) lids (codes "/data") old members) (λ ids. ids ≡ append_new old (member_ids lids members)) result

@@ -15,13 +15,13 @@ use Rattle.task_forms.specs.declared.operations.Who.{Who}
 use Rattle.store_model.specs.Valid.{same_id}
 use Rattle.store_model.specs.Change.{Lids, named_row, named_ids, refuse_member, refuse_linkage, first_of, append_new, member_ids, on_link}
 use Rattle.error_objects.specs.declared.refusals.Refusal.{Refusal}
-use Rattle.ident_rules.specs.declared.stops.Stop.{Stop}
+use Rattle.ident_rules.specs.declared.step_errors.StepError.{StepError}
 use Rattle.trial_steps.specs.Steps.{RefusesOr}
 use Rattle.row_change.proofs.Judging.{next_taken}
 
 -- ---- what is told, by what was passed
 
-pub judged_joined : (at : List ℕ) (lids : Lids) (there : Key → Bool) (linkage : List ℕ) (old old' : List (List ℕ)) (members members' : List Member) (result : Result (List (List ℕ)) (Stop Refusal))
+pub judged_joined : (at : List ℕ) (lids : Lids) (there : Key → Bool) (linkage : List ℕ) (old old' : List (List ℕ)) (members members' : List Member) (result : Result (List (List ℕ)) (StepError Refusal))
     → old ≡ old' → members ≡ members'
     → RefusesOr at (refuse_linkage there lids linkage old members) (λ ids. ids ≡ append_new old (member_ids lids members)) result
     → RefusesOr at (refuse_linkage there lids linkage old' members') (λ ids. ids ≡ append_new old' (member_ids lids members')) result
@@ -29,7 +29,7 @@ judged_joined at lids there linkage old old' members members' result same_old sa
     subst (λ (ms : List Member). RefusesOr at (refuse_linkage there lids linkage old' ms) (λ ids. ids ≡ append_new old' (member_ids lids ms)) result) same_members
     (subst (λ (o : List (List ℕ)). RefusesOr at (refuse_linkage there lids linkage o members) (λ ids. ids ≡ append_new o (member_ids lids members)) result) same_old told)
 
-pub judged_members : (at : List ℕ) (lids : Lids) (there : Key → Bool) (linkage : List ℕ) (members members' : List Member) (result : Result (List (List ℕ)) (Stop Refusal))
+pub judged_members : (at : List ℕ) (lids : Lids) (there : Key → Bool) (linkage : List ℕ) (members members' : List Member) (result : Result (List (List ℕ)) (StepError Refusal))
     → members ≡ members'
     → RefusesOr at (first_of (map (refuse_member there lids linkage) members)) (λ ids. ids ≡ member_ids lids members) result
     → RefusesOr at (first_of (map (refuse_member there lids linkage) members')) (λ ids. ids ≡ member_ids lids members') result

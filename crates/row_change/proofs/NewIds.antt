@@ -11,7 +11,8 @@ use Rattle.world_cells.specs.declared.rows.Row.{Row}
 use Rattle.world_cells.specs.World.{World, row_at, has_row, next_id}
 use Rattle.error_objects.specs.declared.codes.Code.TheVariants as code
 use Rattle.error_objects.specs.Refusals.{refusal, at_pointer}
-use Rattle.store_model.specs.Valid.{IsValid, last_next}
+use Rattle.store_model.specs.Valid.{IsValid}
+use Rattle.world_cells.specs.declared.cells.TheConstants.{LAST_NEXT_ID}
 use Rattle.store_model.specs.Change.{first_of, when, created_key}
 use Rattle.row_change.specs.Creating.{refuse_id}
 
@@ -30,24 +31,24 @@ client_free now kind x b is told = client_judged now kind x false (sym is ∙ to
 -- ---- the server's
 
 -- a next id is from 1 on to the greatest
-pub next_bounds : (schema : Schema) (now : World) (kind : ℕ) → IsValid schema now → (1 ≤ next_id now kind) × (next_id now kind ≤ last_next)
+pub next_bounds : (schema : Schema) (now : World) (kind : ℕ) → IsValid schema now → (1 ≤ next_id now kind) × (next_id now kind ≤ LAST_NEXT_ID)
 next_bounds schema now kind valid = by (find nat_cmp kind now.counters) refl
   where
-    by : (o : Option ℕ) → find nat_cmp kind now.counters ≡ o → (1 ≤ unwrap_or o 1) × (unwrap_or o 1 ≤ last_next)
+    by : (o : Option ℕ) → find nat_cmp kind now.counters ≡ o → (1 ≤ unwrap_or o 1) × (unwrap_or o 1 ≤ LAST_NEXT_ID)
     by None e = (omega arith, lit≤ tt)
     by (Some n) e = let h = valid.counters kind n e in (omega arith, h.2)
 
-server_judged : (now : World) (kind : ℕ) (b : Bool) → (next_id now kind == last_next) ≡ b → refuse_id now kind None ≡ first_of (None ∷ when b (refusal code.IdsEnded) ∷ [])
+server_judged : (now : World) (kind : ℕ) (b : Bool) → (next_id now kind == LAST_NEXT_ID) ≡ b → refuse_id now kind None ≡ first_of (None ∷ when b (refusal code.IdsEnded) ∷ [])
 server_judged now kind b is = ap (λ h. first_of (None ∷ when h (refusal code.IdsEnded) ∷ [])) is
 
-pub server_ended : (schema : Schema) (now : World) (kind number : ℕ) → IsValid schema now → number ≡ next_id now kind → last_next ≤ number → refuse_id now kind None ≡ Some (refusal code.IdsEnded)
-server_ended schema now kind number valid is last = server_judged now kind true (meets (next_id now kind) last_next (next_bounds schema now kind valid).1 (subst (λ (n : ℕ). last_next ≤ n) is last))
+pub server_ended : (schema : Schema) (now : World) (kind number : ℕ) → IsValid schema now → number ≡ next_id now kind → LAST_NEXT_ID ≤ number → refuse_id now kind None ≡ Some (refusal code.IdsEnded)
+server_ended schema now kind number valid is last = server_judged now kind true (meets (next_id now kind) LAST_NEXT_ID (next_bounds schema now kind valid).1 (subst (λ (n : ℕ). LAST_NEXT_ID ≤ n) is last))
   where
     meets : (a b : ℕ) → a ≤ b → b ≤ a → (a == b) ≡ true
     meets a b h g = grind (arith, nat_tests)
 
-pub server_good : (now : World) (kind number : ℕ) → number ≡ next_id now kind → number < last_next → refuse_id now kind None ≡ None
-server_good now kind number is low = server_judged now kind false (apart (next_id now kind) last_next (subst (λ (n : ℕ). n < last_next) is low))
+pub server_good : (now : World) (kind number : ℕ) → number ≡ next_id now kind → number < LAST_NEXT_ID → refuse_id now kind None ≡ None
+server_good now kind number is low = server_judged now kind false (apart (next_id now kind) LAST_NEXT_ID (subst (λ (n : ℕ). n < LAST_NEXT_ID) is low))
   where
     apart : (a b : ℕ) → a < b → (a == b) ≡ false
     apart a b h = grind (arith, nat_tests)
@@ -58,7 +59,7 @@ server_good now kind number is low = server_judged now kind false (apart (next_i
 pub fresh : (schema : Schema) (now : World) (kind : ℕ) → IsValid schema now → row_at now (record { kind = kind; id = decimal (next_id now kind) }) ≡ None
 fresh schema now kind valid = by (row_at now key) refl
   where
-    below_u64 : (n : ℕ) → n ≤ last_next → n < 2 ^ 64
+    below_u64 : (n : ℕ) → n ≤ LAST_NEXT_ID → n < 2 ^ 64
     below_u64 n h = omega arith
 
     trans_lt : (a b c : ℕ) → a < b → b < c → a < c

@@ -13,7 +13,7 @@ use Rattle.std.proofs.lemmas.Bool.{or_left}
 use Rattle.ident_rules.specs.declared.key.Key.{Key}
 use Rattle.ident_rules.specs.declared.memory.NoMemory.{NoMemory}
 use Rattle.ident_rules.specs.IdOrder.{is_equal}
-use Rattle.ident_rules.specs.Key.{key_cmp, key_cmp_total, same_key, key_is}
+use Rattle.ident_rules.specs.Key.{key_cmp, key_cmp_total, same_key, key_is, turned_key}
 use Rattle.resource_schema.specs.declared.schema.Schema.{Schema}
 use Rattle.world_cells.specs.declared.rows.Row.{Row}
 use Rattle.world_cells.specs.declared.keys.CellKey.{CellKey}
@@ -51,9 +51,6 @@ and_right false b e = cc e
 and_both : (a b : Bool) → a ≡ true → b ≡ true → (a && b) ≡ true
 and_both true b e h = h
 and_both false b e h = cc e
-
-turned_key : (x y : Key) → same_key x y ≡ same_key y x
-turned_key x y = (eq_by_cmp_equiv key_cmp_total).symm x y
 
 -- ---- what a look into the ways back from a key looks at
 

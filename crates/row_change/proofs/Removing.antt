@@ -20,8 +20,8 @@ use Rattle.store_model.specs.Change.{Lids, Changed, key_of, first_of, when, at_t
 use Rattle.store_model.specs.Run.{refusal_under}
 use Rattle.store_model.specs.Reach.{is_row_in, is_back_to, target_keys, reach_operation}
 use Rattle.view_reads.specs.Recording.{Recording}
-use Rattle.ident_rules.specs.declared.stops.Stop.{Stop}
-use Rattle.ident_rules.specs.declared.stops.Stop.TheVariants.{Because, NoMemory}
+use Rattle.ident_rules.specs.declared.step_errors.StepError.{StepError}
+use Rattle.ident_rules.specs.declared.step_errors.StepError.TheVariants.{Because, NoMemory}
 use Rattle.row_change.specs.Trial.{IsOutcome, TellsChange, read_of, ReadsInReach}
 use Rattle.trial_steps.specs.Steps.{StandsBehind}
 use Rattle.trial_steps.specs.Steps.{LooksAt, Sees, RefusesOr, LeavesReads, LeadsOn}
@@ -50,7 +50,7 @@ want_told schema at (Ok changed) lids w after = tt
 want_told schema at (Err refusal) lids w after = tt
 
 -- a stop at the first check of an operation
-pub stop_told : {V T : Type 0} (schema : Schema) (at : List ℕ) (expected : Option Refusal) (P : T → Type 0) (stop : Stop Refusal) (rest : List (Option Refusal)) (changed : Changed) (lids : Lids) (w : World) (after : Recording V)
+pub stop_told : {V T : Type 0} (schema : Schema) (at : List ℕ) (expected : Option Refusal) (P : T → Type 0) (stop : StepError Refusal) (rest : List (Option Refusal)) (changed : Changed) (lids : Lids) (w : World) (after : Recording V)
     → RefusesOr at expected P (Err stop) → IsOutcome schema at (outcome (first_of (expected ∷ rest)) changed) (read_of (Err stop)) lids w after
 stop_told schema at expected P (Because r) rest changed lids w after judged =
     subst (λ (o : Option Refusal). IsOutcome schema at (outcome (first_of (o ∷ rest)) changed) (read.Refused r) lids w after) (sym judged.1) judged.2
@@ -83,11 +83,11 @@ remove_done schema at now lids who key w after there named free leads =
 
 module _ {V : Type 0} (schema : Schema) (cells : V → Cells) (at : List ℕ) (lids : Lids) (who : Who) where
   -- what is seen of the row that is found
-  abbrev IsTarget : Result Row (Stop Refusal) → World → Type 0
+  abbrev IsTarget : Result Row (StepError Refusal) → World → Type 0
   IsTarget result now = RefusesOr at (refuse_target now lids who) (λ row. named_row now lids who ≡ Some row) result
 
   -- a stop where it is looked for
-  tells_stop : (before after : Recording V) (stop : Stop Refusal) → Sees schema cells before after (IsTarget (Err stop))
+  tells_stop : (before after : Recording V) (stop : StepError Refusal) → Sees schema cells before after (IsTarget (Err stop))
       → TellsChange schema cells at (operation.Remove who) lids lids before after (read_of {T = Option Key} (Err stop))
   tells_stop before after stop seen w now behind leads =
       stop_told schema at (refuse_target now lids who) (λ row. named_row now lids who ≡ Some row) stop
@@ -95,10 +95,10 @@ module _ {V : Type 0} (schema : Schema) (cells : V → Cells) (at : List ℕ) (l
       (done schema now lids (operation.Remove who)) lids w after (seen w now behind leads)
 
   -- and is passed on
-  pub tells_passed : (before after : Recording V) (stop : Stop Refusal) (result : Result (Option Key) (Stop Refusal)) → IsErr result → IsErrAnd result (λ e. e ≡ stop)
+  pub tells_passed : (before after : Recording V) (stop : StepError Refusal) (result : Result (Option Key) (StepError Refusal)) → IsErr result → IsErrAnd result (λ e. e ≡ stop)
       → Sees schema cells before after (IsTarget (Err stop)) → TellsChange schema cells at (operation.Remove who) lids lids before after (read_of result)
   tells_passed before after stop result is passed seen w now behind leads =
-      subst (λ (r : Result (Option Key) (Stop Refusal)). IsOutcome schema at (apply schema now (operation.Remove who) lids) (read_of r) lids w after)
+      subst (λ (r : Result (Option Key) (StepError Refusal)). IsOutcome schema at (apply schema now (operation.Remove who) lids) (read_of r) lids w after)
       (sym (err_passed result stop is passed)) (tells_stop before after stop seen w now behind leads)
 
   pub tells_refused : (before mid after : Recording V) (row : Row) (b : Bool) (r : Refusal)

@@ -21,8 +21,8 @@ use Rattle.store_model.specs.Valid.{IsValid, IsLinkOf}
 use Rattle.store_model.specs.Change.{Lids, Changed, apply, refused, done, outcome, on_row, named_row, key_of, with_row, first_of, refuse_links, set_links, link_of, append_new, member_ids}
 use Rattle.store_model.specs.Reach.{reach_operation}
 use Rattle.view_reads.specs.Recording.{Recording, Follows}
-use Rattle.ident_rules.specs.declared.stops.Stop.{Stop}
-use Rattle.ident_rules.specs.declared.stops.Stop.TheVariants.{Because, NoMemory}
+use Rattle.ident_rules.specs.declared.step_errors.StepError.{StepError}
+use Rattle.ident_rules.specs.declared.step_errors.StepError.TheVariants.{Because, NoMemory}
 use Rattle.row_change.specs.Trial.{IsOutcome, TellsChange, read_of, ReadsInReach}
 use Rattle.trial_steps.specs.Steps.{StandsBehind}
 use Rattle.trial_steps.specs.Steps.{LooksAt, Sees, RefusesOr, LeavesReads, LeadsOn}
@@ -38,25 +38,25 @@ memory_outcome : {V : Type 0} (schema : Schema) (at : List ℕ) (o : Result Chan
 memory_outcome schema at (Ok changed) lids w after = tt
 memory_outcome schema at (Err r) lids w after = tt
 
-stop_outcome : {T V : Type 0} (schema : Schema) (at : List ℕ) (expected : Option Refusal) (changed : Changed) (P : T → Type 0) (stop : Stop Refusal) (lids : Lids) (w : World) (after : Recording V)
+stop_outcome : {T V : Type 0} (schema : Schema) (at : List ℕ) (expected : Option Refusal) (changed : Changed) (P : T → Type 0) (stop : StepError Refusal) (lids : Lids) (w : World) (after : Recording V)
     → RefusesOr at expected P (Err stop) → IsOutcome schema at (outcome expected changed) (read_of (Err stop)) lids w after
 stop_outcome schema at expected changed P (Because r) lids w after told =
     subst (λ (e : Option Refusal). IsOutcome schema at (outcome e changed) (read.Refused r) lids w after) (sym told.1) told.2
 stop_outcome schema at expected changed P NoMemory lids w after told = memory_outcome schema at (outcome expected changed) lids w after
 
 -- the result of an operation that was not done
-pub stopped : {T V : Type 0} (schema : Schema) (cells : V → Cells) (at : List ℕ) (operation : Operation) (old_lids new_lids : Lids) (a b : Recording V) (P : World → T → Type 0) (stop : Stop Refusal) (r : Result (Option Key) (Stop Refusal))
+pub stopped : {T V : Type 0} (schema : Schema) (cells : V → Cells) (at : List ℕ) (operation : Operation) (old_lids new_lids : Lids) (a b : Recording V) (P : World → T → Type 0) (stop : StepError Refusal) (r : Result (Option Key) (StepError Refusal))
     → IsErr r → IsErrAnd r (λ e. e ≡ stop)
     → Sees schema cells a b (λ now. RefusesOr at (refused schema now old_lids operation) (P now) (Err stop))
     → TellsChange schema cells at operation old_lids new_lids a b (read_of r)
 stopped schema cells at operation old_lids new_lids a b P stop r is passed sees = λ w now behind leads.
-    subst (λ (x : Result (Option Key) (Stop Refusal)). IsOutcome schema at (apply schema now operation old_lids) (read_of x) new_lids w b) (sym (err_passed r stop is passed))
+    subst (λ (x : Result (Option Key) (StepError Refusal)). IsOutcome schema at (apply schema now operation old_lids) (read_of x) new_lids w b) (sym (err_passed r stop is passed))
     (stop_outcome schema at (refused schema now old_lids operation) (done schema now old_lids operation) (P now) stop new_lids w b (sees w now behind leads))
 
-pub out_of_memory : {V : Type 0} (schema : Schema) (cells : V → Cells) (at : List ℕ) (operation : Operation) (old_lids new_lids : Lids) (a b : Recording V) (stop : Stop Refusal) (r : Result (Option Key) (Stop Refusal))
+pub out_of_memory : {V : Type 0} (schema : Schema) (cells : V → Cells) (at : List ℕ) (operation : Operation) (old_lids new_lids : Lids) (a b : Recording V) (stop : StepError Refusal) (r : Result (Option Key) (StepError Refusal))
     → stop ≡ NoMemory → IsErr r → IsErrAnd r (λ e. e ≡ stop) → TellsChange schema cells at operation old_lids new_lids a b (read_of r)
 out_of_memory schema cells at operation old_lids new_lids a b stop r none is passed = λ w now behind leads.
-    subst (λ (x : Result (Option Key) (Stop Refusal)). IsOutcome schema at (apply schema now operation old_lids) (read_of x) new_lids w b) (sym (err_passed r stop is passed ∙ ap Err none))
+    subst (λ (x : Result (Option Key) (StepError Refusal)). IsOutcome schema at (apply schema now operation old_lids) (read_of x) new_lids w b) (sym (err_passed r stop is passed ∙ ap Err none))
     (memory_outcome schema at (apply schema now operation old_lids) new_lids w b)
 
 -- ---- reads
@@ -151,7 +151,7 @@ first_alone (Some r) = refl
 -- ---- links
 
 -- the links that are read, by what was passed
-pub judged_links : (schema : Schema) (at : List ℕ) (lids : Lids) (there : Key → Bool) (kind kind' : ℕ) (given given' : List (ℕ × List Member)) (old old' : List Link) (result : Result (List Link) (Stop Refusal))
+pub judged_links : (schema : Schema) (at : List ℕ) (lids : Lids) (there : Key → Bool) (kind kind' : ℕ) (given given' : List (ℕ × List Member)) (old old' : List Link) (result : Result (List Link) (StepError Refusal))
     → kind ≡ kind' → given ≡ given' → old ≡ old'
     → RefusesOr at (refuse_links there lids (relationships_of schema kind) given) (λ new. new ≡ set_links lids old given) result
     → RefusesOr at (refuse_links there lids (relationships_of schema kind') given') (λ new. new ≡ set_links lids old' given') result

@@ -6,7 +6,7 @@ use Rattle.world_cells.specs.World.{World, has_row, next_id}
 use Rattle.error_objects.specs.declared.codes.Code.TheVariants as code
 use Rattle.error_objects.specs.declared.refusals.Refusal.{Refusal}
 use Rattle.error_objects.specs.Refusals.{refusal, at_pointer}
-use Rattle.store_model.specs.Valid.{last_next}
+use Rattle.world_cells.specs.declared.cells.TheConstants.{LAST_NEXT_ID}
 use Rattle.store_model.specs.Change.{first_of, when, created_id, created_key, with_row, with_next}
 use Rattle.store_model.specs.Reach.{is_row_in, is_counter_of}
 
@@ -14,7 +14,7 @@ use Rattle.store_model.specs.Reach.{is_row_in, is_counter_of}
 abbrev pub refuse_id : World → ℕ → Option (List ℕ) → Option Refusal
 refuse_id w kind id = first_of (
     when (is_some id && has_row w (created_key w kind id)) (at_pointer code.IdExists (codes "/data/id"))
-    ∷ when (is_none id && next_id w kind == last_next) (refusal code.IdsEnded)
+    ∷ when (is_none id && next_id w kind == LAST_NEXT_ID) (refusal code.IdsEnded)
     ∷ [])
 
 -- what is looked at for it

@@ -15,9 +15,9 @@ use Rattle.store_model.specs.Change.{Lids, Changed, apply}
 use Rattle.store_model.specs.Run.{refusal_under}
 use Rattle.store_model.specs.Reach.{reach_operation}
 use Rattle.view_reads.specs.Recording.{Recording}
-use Rattle.trial_steps.specs.Steps.{StandsBehind, StaysIn}
-use Rattle.ident_rules.specs.declared.stops.Stop.{Stop}
-use Rattle.ident_rules.specs.declared.stops.Stop.TheVariants.{Because, NoMemory}
+use Rattle.trial_steps.specs.Steps.{StandsBehind, ReadsWithin}
+use Rattle.ident_rules.specs.declared.step_errors.StepError.{StepError}
+use Rattle.ident_rules.specs.declared.step_errors.StepError.TheVariants.{Because, NoMemory}
 
 -- The outcome of an operation at its pointer is the definition's, and after it the writes lead to the definition's world.
 abbrev pub IsOutcome : {V : Type 0} → Schema → List ℕ → Result Changed Refusal → Read (Option Key) → Lids → World → Recording V → Type 0
@@ -35,10 +35,10 @@ TellsChange schema cells at operation old_lids new_lids before after result =
 
 -- Each key that the operation read lies in its reach, in every world with the view's cells, as the earlier writes changed it.
 abbrev pub ReadsInReach : {V : Type 0} → Schema → (V → Cells) → Operation → Lids → Recording V → Recording V → Type 0
-ReadsInReach schema cells operation lids before after = StaysIn schema cells before after (λ now. reach_operation now lids operation)
+ReadsInReach schema cells operation lids before after = ReadsWithin schema cells (λ now. reach_operation now lids operation) before after
 
 -- what a step that may stop answers
-abbrev pub read_of : {T : Type 0} → Result T (Stop Refusal) → Read T
+abbrev pub read_of : {T : Type 0} → Result T (StepError Refusal) → Read T
 read_of (Ok x) = read.Good x
 read_of (Err (Because refusal)) = read.Refused refusal
 read_of (Err NoMemory) = read.NoMemory

@@ -8,21 +8,21 @@ use crate::removes::remove;
 use crate::steps::Step;
 use crate::updates::{ResourceUpdate, update};
 use error_objects::{Read, Refusal};
-use ident_rules::{Key, Stop};
+use ident_rules::{Key, StepError};
 use local_ids::LocalIds;
 use outer_ends::Work;
 use task_forms::Operation;
 use view_reads::{Recorder, View};
 
 /// What a step that may stop answers.
-fn read_of(tried: Result<Option<Key>, Stop<Refusal>>) -> Read<Option<Key>>
+fn read_of(tried: Result<Option<Key>, StepError<Refusal>>) -> Read<Option<Key>>
     ensures { result ≡ read_of tried }
 {
     match tried {
         Ok(key) => Read::Good(key),
         Err(stop) => match stop {
-            Stop::Because(refusal) => Read::Refused(refusal),
-            Stop::NoMemory => Read::NoMemory,
+            StepError::Because(refusal) => Read::Refused(refusal),
+            StepError::NoMemory => Read::NoMemory,
         },
     }
 }
@@ -34,7 +34,7 @@ fn try_change<V: View>(
     operation: &Operation,
     recorder: &mut Recorder<V>,
     work: &mut Work,
-) -> Result<Option<Key>, Stop<Refusal>>
+) -> Result<Option<Key>, StepError<Refusal>>
     ensures reads { Follows recorder.old recorder.new }
     ensures outcome { TellsChange step.now.schema.now V.cells step.now.pointer.now operation.now lids.old lids.new recorder.old recorder.new (read_of result) }
     ensures reach { ReadsInReach step.now.schema.now V.cells operation.now lids.old recorder.old recorder.new }

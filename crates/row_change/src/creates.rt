@@ -19,7 +19,7 @@ use crate::links::{GivenLinks, read_links};
 use crate::places::MayLinkTo;
 use crate::steps::Step;
 use error_objects::{Blame, Code, Refusal};
-use ident_rules::{Id, Key, List, NoMemory, Stop, Text};
+use ident_rules::{Id, Key, List, NoMemory, StepError, Text};
 use local_ids::{Bind, LocalIds};
 use outer_ends::Work;
 use resource_schema::{AttrValue, Schema, copy_values};
@@ -28,7 +28,7 @@ use std::alloc::Global;
 use task_forms::Member;
 use trial_steps::{has_row, next_number};
 use view_reads::{Recorder, View};
-use world_cells::{Cell, CellKey, Link, Row};
+use world_cells::{Cell, CellKey, LAST_NEXT_ID, Link, Row};
 
 /// A resource that is to be created.
 #[derive(Clone, Copy)]
@@ -55,14 +55,14 @@ pub fn create<V: View>(
     new: &NewResource<'_>,
     recorder: &mut Recorder<V>,
     work: &mut Work,
-) -> Result<Option<Key>, Stop<Refusal>>
+) -> Result<Option<Key>, StepError<Refusal>>
     ensures reads { Follows recorder.old recorder.new }
     ensures outcome { TellsChange step.now.schema.now V.cells step.now.pointer.now (create_of new.now) lids.old lids.new recorder.old recorder.new (read_of result) }
     ensures reach { ReadsInReach step.now.schema.now V.cells (create_of new.now) lids.old recorder.old recorder.new }
 {
     if is_bound(lids, new.kind, new.lid) {
         let refusal = refuse_part(step, Code::LidBound, "/data/lid", "")?;
-        return Err(Stop::Because(refusal));
+        return Err(StepError::Because(refusal));
     }
     let (id, next) = match new_id(step, new.kind, new.id, recorder, work) {
         Ok(made) => made,
@@ -95,7 +95,7 @@ fn new_id<V: View>(
     id: Option<Id>,
     recorder: &mut Recorder<V>,
     work: &mut Work,
-) -> Result<(Id, Option<u64>), Stop<Refusal>>
+) -> Result<(Id, Option<u64>), StepError<Refusal>>
     ensures looks { LooksAt (is_looked_for kind id) recorder.old recorder.new }
     ensures sees { Tells step.now.pointer.now V.cells recorder.old recorder.new (λ schema now. refuse_id now kind id) (λ now. IsNewId now kind id) result }
 {
@@ -112,33 +112,30 @@ fn client_id<V: View>(
     id: Id,
     recorder: &mut Recorder<V>,
     work: &mut Work,
-) -> Result<(Id, Option<u64>), Stop<Refusal>>
+) -> Result<(Id, Option<u64>), StepError<Refusal>>
     ensures looks { LooksAt (is_looked_for kind (Some id)) recorder.old recorder.new }
     ensures sees { Tells step.now.pointer.now V.cells recorder.old recorder.new (λ schema now. refuse_id now kind (Some id)) (λ now. IsNewId now kind (Some id)) result }
 {
     if has_row(&Key { kind, id }, recorder, work)? {
         let refusal = refuse_part(step, Code::IdExists, "/data/id", "")?;
-        Err(Stop::Because(refusal))
+        Err(StepError::Because(refusal))
     } else {
         Ok((id, None))
     }
 }
-
-/// The greatest next id.
-const LAST_NEXT: u64 = 9_223_372_036_854_775_807;
 
 /// The id that the server gives, and the one after it.
 fn server_id<V: View>(
     kind: u32,
     recorder: &mut Recorder<V>,
     work: &mut Work,
-) -> Result<(Id, Option<u64>), Stop<Refusal>>
+) -> Result<(Id, Option<u64>), StepError<Refusal>>
     ensures looks { LooksAt (is_looked_for kind None) recorder.old recorder.new }
     ensures sees { (schema : Types) (at : List ℕ) → Sees schema V.cells recorder.old recorder.new (λ now. RefusesOr at (refuse_id now kind None) (IsNewId now kind None) result) }
 {
     let number = next_number(kind, recorder, work)?;
-    if number >= LAST_NEXT {
-        Err(Stop::Because(ids_ended()))
+    if number >= LAST_NEXT_ID {
+        Err(StepError::Because(ids_ended()))
     } else {
         Ok((Id::of_number(number), Some(number + 1)))
     }
@@ -191,7 +188,7 @@ fn new_row<V: View>(
     new: &NewResource<'_>,
     recorder: &mut Recorder<V>,
     work: &mut Work,
-) -> Result<Row, Stop<Refusal>>
+) -> Result<Row, StepError<Refusal>>
     ensures looks { LooksAt (is_row_in (linked_keys lids.now new.now.links.now)) recorder.old recorder.new }
     ensures sees { TellsAt step.now V.cells recorder.old recorder.new (refuse_new step.now.schema.now new.now key.now lids.now) (λ now. IsNewRow step.now.schema.now new.now key.now lids.now) result }
 {

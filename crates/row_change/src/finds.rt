@@ -7,7 +7,7 @@ ghost use Rattle.trial_steps.specs.Steps.{LooksAt, Tells};
 
 use crate::steps::Step;
 use error_objects::{Blame, Code, Refusal};
-use ident_rules::{Key, NoMemory, Stop, Text};
+use ident_rules::{Key, NoMemory, StepError, Text};
 use local_ids::LocalIds;
 use outer_ends::Work;
 use std::alloc::Global;
@@ -36,19 +36,19 @@ pub fn find_target<V: View>(
     who: &Who,
     recorder: &mut Recorder<V>,
     work: &mut Work,
-) -> Result<Row, Stop<Refusal>>
+) -> Result<Row, StepError<Refusal>>
     ensures looks { LooksAt (is_row_in (target_keys lids.now who.now)) recorder.old recorder.new }
     ensures sees { Tells step.now.pointer.now V.cells recorder.old recorder.new (λ schema now. refuse_target now lids.now who.now) (λ now row. named_row now lids.now who.now ≡ Some row) result }
 {
     let Some(key) = key_of(lids, &who.named) else {
         let refusal = refuse_at(step, Code::UnknownLid, who, "/lid")?;
-        return Err(Stop::Because(refusal));
+        return Err(StepError::Because(refusal));
     };
     match find_row(step.alloc, &key, recorder, work)? {
         Some(row) => Ok(row),
         None => {
             let refusal = refuse_at(step, Code::NotFound, who, "")?;
-            Err(Stop::Because(refusal))
+            Err(StepError::Because(refusal))
         }
     }
 }

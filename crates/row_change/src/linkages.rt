@@ -14,7 +14,7 @@ use crate::finds::{joined_pointer, key_of, refuse_part};
 use crate::places::MayLinkTo;
 use crate::steps::Step;
 use error_objects::{Code, Refusal};
-use ident_rules::{Id, Key, List, NoMemory, Stop, Text};
+use ident_rules::{Id, Key, List, NoMemory, StepError, Text};
 use local_ids::LocalIds;
 use outer_ends::Work;
 use std::alloc::Global;
@@ -22,6 +22,7 @@ use std::cmp::Ordering;
 use task_forms::{Member, Named};
 use trial_steps::has_row;
 use view_reads::{Recorder, View};
+use world_cells::LINK_LIMIT;
 
 /// A linkage of a request.
 #[derive(Clone, Copy)]
@@ -41,7 +42,7 @@ pub fn read_members<V: View>(
     linkage: &Linkage<'_>,
     recorder: &mut Recorder<V>,
     work: &mut Work,
-) -> Result<List<Id>, Stop<Refusal>>
+) -> Result<List<Id>, StepError<Refusal>>
     ensures looks { LooksAt (is_row_in (member_keys lids.now linkage.now.members.now)) recorder.old recorder.new }
     ensures ids { IfOk result (AreNamed linkage.now lids.now) }
     ensures sees { Tells step.now.pointer.now V.cells recorder.old recorder.new (λ schema. refuse_all linkage.now lids.now) (λ now. AreNamed linkage.now lids.now) result }
@@ -71,7 +72,7 @@ fn read_member<V: View>(
     member: &Member,
     recorder: &mut Recorder<V>,
     work: &mut Work,
-) -> Result<Id, Stop<Refusal>>
+) -> Result<Id, StepError<Refusal>>
     ensures looks { LooksAt (is_row_in (member_keys lids.now (member.now ∷ []))) recorder.old recorder.new }
     ensures id { IfOk result (λ id. member_ids lids.now (member.now ∷ []) ≡ id ∷ []) }
     ensures sees { Tells step.now.pointer.now V.cells recorder.old recorder.new (λ schema. refuse_one linkage.now lids.now member.now) (λ now id. ⊤) result }
@@ -79,13 +80,13 @@ fn read_member<V: View>(
 {
     let Some(key) = key_of(lids, &member.named) else {
         let refusal = refuse_member(step, Code::UnknownLid, linkage.pointer, member)?;
-        return Err(Stop::Because(refusal));
+        return Err(StepError::Because(refusal));
     };
     if may_link(linkage.to, &key, recorder, work)? {
         Ok(key.id)
     } else {
         let refusal = refuse_member(step, Code::RelatedNotFound, linkage.pointer, member)?;
-        Err(Stop::Because(refusal))
+        Err(StepError::Because(refusal))
     }
 }
 
@@ -149,9 +150,6 @@ fn name_pointer(named: &Named) -> &'static str
     }
 }
 
-/// The most links of one relationship.
-pub const LINK_LIMIT: usize = 1_000;
-
 /// The ids of a linkage behind old ones, each once; at most [`LINK_LIMIT`] together.
 pub fn join_members<V: View>(
     step: &Step<'_>,
@@ -160,7 +158,7 @@ pub fn join_members<V: View>(
     old: &[Id],
     recorder: &mut Recorder<V>,
     work: &mut Work,
-) -> Result<List<Id>, Stop<Refusal>>
+) -> Result<List<Id>, StepError<Refusal>>
     ensures looks { LooksAt (is_row_in (member_keys lids.now linkage.now.members.now)) recorder.old recorder.new }
     ensures ids { IfOk result (AreJoined linkage.now lids.now old.now) }
     ensures sees { Tells step.now.pointer.now V.cells recorder.old recorder.new (λ schema. refuse_joined linkage.now lids.now old.now) (λ now. AreJoined linkage.now lids.now old.now) result }
@@ -169,7 +167,7 @@ pub fn join_members<V: View>(
     let joined = append_new(step.alloc, old, ids.as_slice())?;
     if joined.len() > LINK_LIMIT {
         let refusal = refuse_part(step, Code::TooManyMembers, linkage.pointer, "")?;
-        return Err(Stop::Because(refusal));
+        return Err(StepError::Because(refusal));
     }
     Ok(List::from_vec(joined))
 }

@@ -11,7 +11,7 @@ use crate::linkages::{Linkage, join_members};
 use crate::places::MayLinkTo;
 use crate::steps::Step;
 use error_objects::Refusal;
-use ident_rules::{Id, List, NoMemory, Stop, Text};
+use ident_rules::{Id, List, NoMemory, StepError, Text};
 use local_ids::LocalIds;
 use outer_ends::Work;
 use resource_schema::Relationship;
@@ -39,7 +39,7 @@ pub fn read_links<V: View>(
     old: List<Link>,
     recorder: &mut Recorder<V>,
     work: &mut Work,
-) -> Result<List<Link>, Stop<Refusal>>
+) -> Result<List<Link>, StepError<Refusal>>
     ensures looks { LooksAt (is_row_in (linked_keys lids.now given.now.links.now)) recorder.old recorder.new }
     ensures sees { TellsAt step.now V.cells recorder.old recorder.new (refuse_given step.now.schema.now given.now lids.now) (λ now. AreSet given.now lids.now old) result }
 {

@@ -15,7 +15,7 @@ use crate::places::MayLinkTo;
 use crate::steps::Step;
 use crate::updates::Rewrite;
 use error_objects::Refusal;
-use ident_rules::{Id, Key, List, NoMemory, Stop};
+use ident_rules::{Id, Key, List, NoMemory, StepError};
 use local_ids::LocalIds;
 use outer_ends::Work;
 use row_writes::{ids_at, put_row};
@@ -55,7 +55,7 @@ pub fn change_link<V: View>(
     operation: &LinkOperation<'_>,
     recorder: &mut Recorder<V>,
     work: &mut Work,
-) -> Result<Option<Key>, Stop<Refusal>>
+) -> Result<Option<Key>, StepError<Refusal>>
     ensures reads { Follows recorder.old recorder.new }
     ensures outcome { TellsChange step.now.schema.now V.cells step.now.pointer.now (operation_of operation.now) lids.now lids.now recorder.old recorder.new (read_of result) }
     ensures reach { ReadsInReach step.now.schema.now V.cells (operation_of operation.now) lids.now recorder.old recorder.new }
@@ -73,7 +73,7 @@ fn relinked_row<V: View>(
     operation: &LinkOperation<'_>,
     recorder: &mut Recorder<V>,
     work: &mut Work,
-) -> Result<Rewrite, Stop<Refusal>>
+) -> Result<Rewrite, StepError<Refusal>>
     ensures looks { LooksAt (is_row_in (target_keys lids.now operation.now.who.now ++ link_keys operation.now lids.now)) recorder.old recorder.new }
     ensures sees { Tells step.now.pointer.now V.cells recorder.old recorder.new (refuse_link operation.now lids.now) (IsRelinked operation.now lids.now) result }
 {
@@ -92,7 +92,7 @@ fn ids_after<V: View>(
     old: &[Id],
     recorder: &mut Recorder<V>,
     work: &mut Work,
-) -> Result<List<Id>, Stop<Refusal>>
+) -> Result<List<Id>, StepError<Refusal>>
     ensures looks { LooksAt (is_row_in (link_keys operation.now lids.now)) recorder.old recorder.new }
     ensures sees { Tells step.now.pointer.now V.cells recorder.old recorder.new (λ schema. refuse_change operation.now lids.now old.now) (λ now. AreAfter operation.now lids.now old.now) result }
 {

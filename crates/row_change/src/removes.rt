@@ -6,7 +6,7 @@ use crate::finds::{find_target, refuse_at};
 use crate::references::is_referenced;
 use crate::steps::Step;
 use error_objects::{Code, Refusal};
-use ident_rules::{Key, Stop};
+use ident_rules::{Key, StepError};
 use local_ids::LocalIds;
 use outer_ends::Work;
 use row_writes::remove_row;
@@ -20,7 +20,7 @@ pub fn remove<V: View>(
     who: &Who,
     recorder: &mut Recorder<V>,
     work: &mut Work,
-) -> Result<Option<Key>, Stop<Refusal>>
+) -> Result<Option<Key>, StepError<Refusal>>
     ensures reads { Follows recorder.old recorder.new }
     ensures outcome { TellsChange step.now.schema.now V.cells step.now.pointer.now (operation.Remove who.now) lids.now lids.now recorder.old recorder.new (read_of result) }
     ensures reach { ReadsInReach step.now.schema.now V.cells (operation.Remove who.now) lids.now recorder.old recorder.new }
@@ -28,7 +28,7 @@ pub fn remove<V: View>(
     let row = find_target(step, lids, who, recorder, work)?;
     if is_referenced(&row.key, recorder, work)? {
         let refusal = refuse_at(step, Code::StillReferenced, who, "")?;
-        return Err(Stop::Because(refusal));
+        return Err(StepError::Because(refusal));
     }
     remove_row(step.schema, &row, recorder)?;
     Ok(None)

@@ -12,7 +12,7 @@ use crate::links::{GivenLinks, read_links};
 use crate::places::MayLinkTo;
 use crate::steps::Step;
 use error_objects::Refusal;
-use ident_rules::{Key, List, NoMemory, Stop};
+use ident_rules::{Key, List, NoMemory, StepError};
 use local_ids::LocalIds;
 use outer_ends::Work;
 use resource_schema::{AttrValue, copy_values};
@@ -49,7 +49,7 @@ pub fn update<V: View>(
     update: &ResourceUpdate<'_>,
     recorder: &mut Recorder<V>,
     work: &mut Work,
-) -> Result<Option<Key>, Stop<Refusal>>
+) -> Result<Option<Key>, StepError<Refusal>>
     ensures reads { Follows recorder.old recorder.new }
     ensures outcome { TellsChange step.now.schema.now V.cells step.now.pointer.now (update_of update.now) lids.now lids.now recorder.old recorder.new (read_of result) }
     ensures reach { ReadsInReach step.now.schema.now V.cells (update_of update.now) lids.now recorder.old recorder.new }
@@ -68,7 +68,7 @@ fn updated_row<V: View>(
     update: &ResourceUpdate<'_>,
     recorder: &mut Recorder<V>,
     work: &mut Work,
-) -> Result<Rewrite, Stop<Refusal>>
+) -> Result<Rewrite, StepError<Refusal>>
     ensures looks { LooksAt (is_row_in (target_keys lids.now update.now.who.now ++ linked_keys lids.now update.now.links.now)) recorder.old recorder.new }
     ensures sees { TellsAt step.now V.cells recorder.old recorder.new (refuse_update update.now lids.now step.now.schema.now) (IsUpdated update.now lids.now) result }
 {
@@ -86,7 +86,7 @@ fn new_links<V: View>(
     old: &Row,
     recorder: &mut Recorder<V>,
     work: &mut Work,
-) -> Result<List<Link>, Stop<Refusal>>
+) -> Result<List<Link>, StepError<Refusal>>
     ensures looks { LooksAt (is_row_in (linked_keys lids.now update.now.links.now)) recorder.old recorder.new }
     ensures sees { TellsAt step.now V.cells recorder.old recorder.new (refuse_links_of update.now lids.now step.now.schema.now) (λ now. AreNewLinks update.now lids.now old.now) result }
 {

@@ -10,7 +10,7 @@ use Rattle.std.specs.Cmp.Lexicographic.{pointwise, nat_list_eq_equiv}
 use Rattle.std.proofs.lemmas.List.{take-append-drop, take_more, take_all, length-drop}
 use Rattle.std.proofs.lemmas.List.Folds.{list_any_more, list_any-append}
 use Rattle.ident_rules.specs.declared.key.Key.{Key}
-use Rattle.ident_rules.specs.IdOrder.{id_cmp, id_cmp_ties, id_cmp-IsAntisymmetric}
+use Rattle.ident_rules.specs.IdOrder.{id_cmp, id_cmp_ties, id_cmp-IsAntisymmetric, then_equal, id_is}
 use Rattle.ident_rules.specs.IdOrder.{is_equal}
 use Rattle.ident_rules.specs.Key.{key_cmp, key_cmp_total}
 use Rattle.world_cells.specs.declared.keys.CellKey.{CellKey}
@@ -25,11 +25,6 @@ use Rattle.view_reads.specs.Places.{Wrote}
 use Rattle.row_writes.specs.WritesBacks.{back_from, is_back_of, WritesBacks, turned, TurnsBacks}
 
 -- ---- keys that tie
-
-then_equal : (o : Ordering) → is_eq (ordering_then o Equal) ≡ is_eq o
-then_equal Less = refl
-then_equal Equal = refl
-then_equal Greater = refl
 
 pub same_then : (o p : Ordering) → is_eq (ordering_then o p) ≡ (is_eq o && is_eq p)
 same_then Less p = refl
@@ -155,14 +150,11 @@ turned_backs kind from rel old new n gone come before mid after shared is_gone i
 pub rest_from : (n : ℕ) (ids : List (List ℕ)) → take (length ids - n) (drop n ids) ≡ drop n ids
 rest_from n ids = take_all (length ids - n) (drop n ids) (omega (arith, length-drop n ids))
 
-id_is : (x y : List ℕ) → pointwise nat_eq x y ≡ true → x ≡ y
-id_is x y e = id_cmp-IsAntisymmetric x y (is_equal _ (sym (id_cmp_ties x y) ∙ e))
-
 -- one more id that is the same in both lists
 pub shared_more : (left right : List (List ℕ)) (i : ℕ) (x y : List ℕ) → i < length left → i < length right → x ≡ get_or left i x → y ≡ get_or right i y
     → pointwise nat_eq x y ≡ true → take i left ≡ take i right → take (i + 1) left ≡ take (i + 1) right
 shared_more left right i x y in_left in_right at_left at_right same so_far =
     take_more left i x in_left
     ∙ ap (λ l. l ++ get_or left i x ∷ []) so_far
-    ∙ ap (λ z. take i right ++ z ∷ []) (sym at_left ∙ id_is x y same ∙ at_right)
+    ∙ ap (λ z. take i right ++ z ∷ []) (sym at_left ∙ id_is x y (sym (id_cmp_ties x y) ∙ same) ∙ at_right)
     ∙ sym (take_more right i y in_right)

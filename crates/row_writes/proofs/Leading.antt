@@ -8,7 +8,7 @@ use Rattle.std.proofs.lemmas.Bool.{le-ltb}
 use Rattle.std.proofs.lemmas.Bool.Decides.{nat_tests}
 use Rattle.std.specs.FinMap.{nat_cmp-IsAntisymmetric}
 use Rattle.ident_rules.specs.declared.key.Key.{Key}
-use Rattle.ident_rules.specs.IdOrder.{is_equal}
+use Rattle.ident_rules.specs.IdOrder.{is_equal, number_is}
 use Rattle.ident_rules.specs.Key.{key_cmp, same_key}
 use Rattle.resource_schema.specs.declared.schema.Schema.{Schema}
 use Rattle.resource_schema.specs.Kinds.{target_of}
@@ -73,9 +73,6 @@ one_later r i = grind (arith, nat_tests)
 
 lt_more : (r i : ℕ) → nat_lt r (i + 1) ≡ (nat_lt r i || eq_by_cmp nat_cmp r i)
 lt_more r i = one_later r i ∙ ap (λ b. nat_lt r i || b) (sym (unsigned_tied r i))
-
-number_is : (r i : ℕ) → eq_by_cmp nat_cmp r i ≡ true → r ≡ i
-number_is r i e = nat_cmp-IsAntisymmetric r i (is_equal _ e)
 
 step_at : (schema : Schema) (key : Key) (old new : List Link) (i : ℕ) (k : CellKey) (c : Option Cell)
     → turned (is_back_of (target_of schema key.kind i) key i (ids_at old i) k) (is_back_of (target_of schema key.kind i) key i (ids_at new i) k) (rewritten schema key old new i k c)

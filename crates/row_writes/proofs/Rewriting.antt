@@ -7,7 +7,7 @@ use Rattle.std.proofs.lemmas.Bool.{ltb-false}
 use Rattle.std.proofs.lemmas.List.{get_or_past}
 use Rattle.std.proofs.lemmas.Slice.Zip.{AllZip-long}
 use Rattle.ident_rules.specs.declared.key.Key.{Key}
-use Rattle.ident_rules.specs.Key.{same_key, key_cmp_total, key_is}
+use Rattle.ident_rules.specs.Key.{same_key, key_cmp_total, key_is, turned_key}
 use Rattle.resource_schema.specs.declared.schema.Schema.{Schema}
 use Rattle.resource_schema.specs.Kinds.{relationships_of, target_of}
 use Rattle.world_cells.specs.declared.rows.Link.{Link}
@@ -102,9 +102,6 @@ gone_row false row = refl
 gone_back : (s is : Bool) (c : Option Cell) → is ≡ false → cond s (cond is (Some cell.Back) None) c ≡ cond (not s) c None
 gone_back true is c none = ap (λ b. cond b (Some cell.Back) None) none
 gone_back false is c none = refl
-
-turned_key : (x y : Key) → same_key x y ≡ same_key y x
-turned_key x y = (eq_by_cmp_equiv key_cmp_total).symm x y
 
 removed_cell : (schema : Schema) (now : World) (old : Row) → IsValid schema now → row_at now old.key ≡ Some old → (k : CellKey)
     → cond (same_cell_key k (cell_key.Row old.key)) None (rewritten schema old.key old.links [] (length (relationships_of schema old.key.kind)) k (cell_at schema now k))

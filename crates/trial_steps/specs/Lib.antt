@@ -2,3 +2,5 @@ pub mod Steps
 pub mod StepLaws
 pub mod Found
 pub mod Finding
+pub mod Runners
+pub mod RunnerExamples

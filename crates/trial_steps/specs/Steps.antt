@@ -10,8 +10,8 @@ use Rattle.error_objects.specs.declared.refusals.Refusal.{Refusal}
 use Rattle.store_model.specs.Valid.{IsValid}
 use Rattle.store_model.specs.Run.{refusal_under}
 use Rattle.view_reads.specs.Recording.{Recording, Follows}
-use Rattle.ident_rules.specs.declared.stops.Stop.{Stop}
-use Rattle.ident_rules.specs.declared.stops.Stop.TheVariants.{Because, NoMemory}
+use Rattle.ident_rules.specs.declared.step_errors.StepError.{StepError}
+use Rattle.ident_rules.specs.declared.step_errors.StepError.TheVariants.{Because, NoMemory}
 
 -- ---- steps that read
 
@@ -27,11 +27,11 @@ pub record StandsBehind (schema : Schema) (store : Cells) (reads : ReadSet) (w n
   pub agrees : AgreeOn reads (cell_at schema w) store
   pub now_valid : IsValid schema now
 
--- Each key that a step read passes the test, in every world with the view's cells, as the earlier writes changed it.
-abbrev pub StaysIn : {V : Type 0} → Schema → (V → Cells) → Recording V → Recording V → (World → CellKey → Bool) → Type 0
-StaysIn schema cells before after test =
+-- Each key that was read meanwhile is in the reach of every world now with the view's cells, as the earlier writes changed them.
+abbrev pub ReadsWithin : {V : Type 0} → Schema → (V → Cells) → (World → CellKey → Bool) → Recording V → Recording V → Type 0
+ReadsWithin schema cells reach before after =
     (w now : World) → IsValid schema w → ((k : CellKey) → cell_at schema w k ≡ cells before.store k) → IsValid schema now → Leads (cell_at schema w) before.writes (cell_at schema now)
-    → (k : CellKey) → IsTrue (covers after.reads k) → IsFalse (covers before.reads k) → IsTrue (test now k)
+    → (k : CellKey) → IsTrue (covers after.reads k) → IsFalse (covers before.reads k) → IsTrue (reach now k)
 
 -- It is so of every world now that may stand behind the view under the earlier writes.
 abbrev pub Sees : {V : Type 0} → Schema → (V → Cells) → Recording V → Recording V → (World → Type 0) → Type 0
@@ -39,17 +39,17 @@ Sees schema cells before after P =
     (w now : World) → StandsBehind schema (cells before.store) after.reads w now → Leads (cell_at schema w) before.writes (cell_at schema now) → P now
 
 -- The refusal that is told, seen from the request, or where there is none a value of which P holds.
-abbrev pub RefusesOr : {T : Type 0} → List ℕ → Option Refusal → (T → Type 0) → Result T (Stop Refusal) → Type 0
+abbrev pub RefusesOr : {T : Type 0} → List ℕ → Option Refusal → (T → Type 0) → Result T (StepError Refusal) → Type 0
 RefusesOr at expected P (Ok x) = (expected ≡ None) × P x
 RefusesOr at expected P (Err (Because r)) = (e : Refusal) × (expected ≡ Some e) × (r ≡ refusal_under at e)
 RefusesOr at expected P (Err NoMemory) = ⊤
 
 -- what a step that may stop tells of every world now that may stand behind the view
-abbrev pub TellsIn : {V T : Type 0} → Schema → List ℕ → (V → Cells) → Recording V → Recording V → (World → Option Refusal) → (World → T → Type 0) → Result T (Stop Refusal) → Type 0
+abbrev pub TellsIn : {V T : Type 0} → Schema → List ℕ → (V → Cells) → Recording V → Recording V → (World → Option Refusal) → (World → T → Type 0) → Result T (StepError Refusal) → Type 0
 TellsIn schema at cells before after expected P result = Sees schema cells before after (λ now. RefusesOr at (expected now) (P now) result)
 
 -- and under every schema
-abbrev pub Tells : {V T : Type 0} → List ℕ → (V → Cells) → Recording V → Recording V → (Schema → World → Option Refusal) → (World → T → Type 0) → Result T (Stop Refusal) → Type 0
+abbrev pub Tells : {V T : Type 0} → List ℕ → (V → Cells) → Recording V → Recording V → (Schema → World → Option Refusal) → (World → T → Type 0) → Result T (StepError Refusal) → Type 0
 Tells at cells before after expected P result = (schema : Schema) → TellsIn schema at cells before after (expected schema) P result
 
 -- ---- steps that write

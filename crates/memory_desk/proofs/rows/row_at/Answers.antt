@@ -1,5 +1,5 @@
 use Rattle.std.proofs.Common.{ap, ◌∙◌}
-use Rattle.memory_desk.specs.Rows.{row_of}
+use Rattle.trial_steps.specs.Found.{row_of}
 use Rattle.memory_desk.proofs.Fetched.{row_of-cell}
 use Rattle.memory_desk.proofs.rows.row_at.Goals as goal
 

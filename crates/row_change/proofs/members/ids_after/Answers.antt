@@ -1,7 +1,7 @@
 use Rattle.std.proofs.Common.{◌≡◌, ℕ, List, [], sym, ap, subst, ◌∙◌, Result, Option, None, Some, Ok, Err, true}
 use Rattle.std.specs.Prelude.{codes, map, not}
 use Rattle.std.specs.List.{filter, list_any}
-use Rattle.ident_rules.specs.declared.stops.Stop.{Stop}
+use Rattle.ident_rules.specs.declared.step_errors.StepError.{StepError}
 use Rattle.error_objects.specs.declared.refusals.Refusal.{Refusal}
 use Rattle.world_cells.specs.World.{World}
 use Rattle.store_model.specs.Valid.{same_id}
@@ -17,7 +17,7 @@ use Rattle.row_change.proofs.MemberChanges.{told_joined, told_named}
 use Rattle.row_change.proofs.members.ids_after.Goals as goal
 
 -- what is told of a change, by which one it is
-by_change : (at : List ℕ) (lids : Lids) (old : List (List ℕ)) (members : List Member) (now : World) (result : Result (List (List ℕ)) (Stop Refusal)) (c x : LinkChange) → c ≡ x
+by_change : (at : List ℕ) (lids : Lids) (old : List (List ℕ)) (members : List Member) (now : World) (result : Result (List (List ℕ)) (StepError Refusal)) (c x : LinkChange) → c ≡ x
     → RefusesOr at (refuse_by x lids old members now) (λ ids. ids ≡ ids_by x (member_ids lids members) old) result → RefusesOr at (refuse_by c lids old members now) (λ ids. ids ≡ ids_by c (member_ids lids members) old) result
 by_change at lids old members now result c x is told =
     subst (λ (y : LinkChange). RefusesOr at (refuse_by y lids old members now) (λ ids. ids ≡ ids_by y (member_ids lids members) old) result) (sym is) told
