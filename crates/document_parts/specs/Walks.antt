@@ -11,7 +11,7 @@ use Rattle.serde_json.specs.View.{view, members_view}
 use Rattle.serde_json.specs.declared.value.Value.{Value}
 use Rattle.json_forms.specs.Json.{members_list}
 use Rattle.request_model.specs.Words.{all_ok}
-use Rattle.request_model.specs.FirstErrors.{onto, rest-begin, rest-more, rest-stop, rest-end}
+use Rattle.request_model.specs.ReadingLaws.{onto, rest-begin, rest-more, rest-stop, rest-end}
 
 -- the names and values of entries
 abbrev pub seen : List (String Global × Value) → List (List ℕ × Data)

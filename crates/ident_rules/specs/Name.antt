@@ -20,13 +20,13 @@ abbrev pub bad_name_place : List ℕ → Option ℕ
 bad_name_place [] = None
 bad_name_place (first ∷ more) = if is_ascii_alphanumeric first then or_bad_end (first ∷ more) (bad_place (first ∷ more)) else Some 0
 
-abbrev pub or_bad_byte : List ℕ → Option ℕ → Result (List ℕ) NameFault
-or_bad_byte text None = Ok text
-or_bad_byte text (Some place) = Err (BadByte place)
+abbrev pub or_bad_name_byte : List ℕ → Option ℕ → Result (List ℕ) NameFault
+or_bad_name_byte text None = Ok text
+or_bad_name_byte text (Some place) = Err (BadByte place)
 
 -- the name, or the first fault
 abbrev pub read_name : List ℕ → Result (List ℕ) NameFault
 read_name text =
     if length text == 0 then Err Empty
     else if nat_lt ID_LIMIT (length text) then Err TooLong
-    else or_bad_byte text (bad_name_place text)
+    else or_bad_name_byte text (bad_name_place text)

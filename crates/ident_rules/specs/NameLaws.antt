@@ -7,7 +7,7 @@ use Rattle.std.proofs.lemmas.Bool.Decides.{nat_tests}
 use Rattle.ident_rules.specs.declared.id.TheConstants.{ID_LIMIT}
 use Rattle.ident_rules.specs.Id.{is_id, is_id_byte, bad_place}
 use Rattle.ident_rules.specs.IdLaws.{length-is_id-le, length-is_id-pos, bad_place-is_id, list_all-from_position, is_id-holds}
-use Rattle.ident_rules.specs.Name.{is_name, bad_name_place, or_bad_end, or_bad_byte, read_name}
+use Rattle.ident_rules.specs.Name.{is_name, bad_name_place, or_bad_end, or_bad_name_byte, read_name}
 
 -- a name is an id
 pub is_id-is_name : (text : List ℕ) → IsTrue (is_name text) → IsTrue (is_id text)
@@ -56,4 +56,4 @@ read_name-is_name text name =
     let some : 0 < length text = length-is_id-pos text id in
     let empty : (length text == 0) ≡ false = grind (arith, nat_tests, some) in
     let long : nat_lt ID_LIMIT (length text) ≡ false = grind (arith, nat_tests, fits) in
-    rw (empty, long) (ap (or_bad_byte text) (bad_name_place-is_name text name))
+    rw (empty, long) (ap (or_bad_name_byte text) (bad_name_place-is_name text name))

@@ -9,11 +9,11 @@ IsStop (Because r) reason = r ≡ reason
 IsStop NoMemory reason = ⊤
 
 -- a stop by what the definition says
-abbrev pub Stops : {T R : Type 0} → StepError R → Result T R → Type 0
-Stops (Because r) d = d ≡ Err r
-Stops NoMemory d = ⊤
+abbrev pub IsStopOf : {T R : Type 0} → StepError R → Result T R → Type 0
+IsStopOf (Because r) d = d ≡ Err r
+IsStopOf NoMemory d = ⊤
 
 -- what the definition says
 abbrev pub Gives : {T R : Type 0} → Result T (StepError R) → Result T R → Type 0
 Gives (Ok x) d = d ≡ Ok x
-Gives (Err stop) d = Stops stop d
+Gives (Err stop) d = IsStopOf stop d

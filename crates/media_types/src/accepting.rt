@@ -2,7 +2,7 @@ ghost use Rattle.std.specs.Prelude.{◌≡◌, ◌∷◌, [], IfOk, IsOk, codes,
 ghost use Rattle.std.specs.List.{join_with_byte};
 ghost use Rattle.request_model.specs.Words.{comma};
 ghost use Rattle.request_model.specs.MediaTypes.{unquoted_pieces};
-ghost use Rattle.request_model.specs.Negotiation.{acceptable, is_named, values_of};
+ghost use Rattle.request_model.specs.Negotiation.{acceptable, is_named, field_values};
 ghost use Rattle.media_types.specs.Elements.{accepts, element_of, types_of};
 ghost use Rattle.media_types.specs.TypeParams.{are_good, without_q};
 ghost use Rattle.media_types.specs.ValuesLeft.{values_left};
@@ -88,7 +88,7 @@ fn join(alloc: Global, first: &[u8], others: Values<'_>) -> Result<Vec<u8>, NoMe
 /// are no media type. Its one error is want of memory; without the field it takes none.
 pub fn accept_ok(alloc: Global, fields: &[Field]) -> Result<bool, NoMemory>
     ensures judged { IfOk result (λ b. b ≡ acceptable fields.now) }
-    ensures plain { values_of (codes "accept") fields.now ≡ [] → IsOk result }
+    ensures plain { field_values (codes "accept") fields.now ≡ [] → IsOk result }
 {
     let mut values = Values::new(b"accept", fields);
     let Some(first) = values.next() else {

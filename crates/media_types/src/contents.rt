@@ -1,7 +1,7 @@
 ghost use Rattle.std.specs.Prelude.{◌≡◌, IfOk, IsOk, codes, length};
 ghost use Rattle.std.specs.List.{list_all};
 ghost use Rattle.request_model.specs.MediaTypes.{media_of};
-ghost use Rattle.request_model.specs.Negotiation.{content, is_identity, needs_atomic, needs_body, serve, serves, values_of};
+ghost use Rattle.request_model.specs.Negotiation.{content, is_identity, needs_atomic, needs_body, serve, serves, field_values};
 ghost use Rattle.media_types.specs.TypeParams.{params_serve};
 
 use crate::fields::Values;
@@ -9,7 +9,7 @@ use crate::media::json_api_params;
 use crate::types::{are_good, have_atomic, same_in_any_case};
 use http_messages::Field;
 use ident_rules::NoMemory;
-use request_model::{Judged, Need, Param};
+use request_model::{ContentVerdict, Need, Param};
 use std::alloc::Global;
 
 fn needs_body(need: Need) -> bool
@@ -52,8 +52,8 @@ fn serves(alloc: Global, need: Need, value: &[u8]) -> Result<bool, NoMemory>
 
 // At most one field Content-Type, whose type serves.
 fn serve(alloc: Global, need: Need, fields: &[Field]) -> Result<bool, NoMemory>
-    ensures serves { IfOk result (λ b. b ≡ serve need (values_of (codes "content-type") fields.now)) }
-    ensures plain { (length (values_of (codes "content-type") fields.now) ≡ 1 → ⊥) → IsOk result }
+    ensures serves { IfOk result (λ b. b ≡ serve need (field_values (codes "content-type") fields.now)) }
+    ensures plain { (length (field_values (codes "content-type") fields.now) ≡ 1 → ⊥) → IsOk result }
 {
     let mut values = Values::new(b"content-type", fields);
     let Some(value) = values.next() else {
@@ -74,7 +74,7 @@ fn is_identity(coding: &[u8]) -> bool
 
 // No field Content-Encoding names a coding. Takes no memory.
 fn is_uncoded(fields: &[Field]) -> bool
-    ensures { result ≡ list_all is_identity (values_of (codes "content-encoding") fields.now) }
+    ensures { result ≡ list_all is_identity (field_values (codes "content-encoding") fields.now) }
 {
     for coding in Values::new(b"content-encoding", fields) {
         if !is_identity(coding) {
@@ -87,15 +87,15 @@ fn is_uncoded(fields: &[Field]) -> bool
 /// How the fields that describe the content are judged: the type before the coding (JSON:API 1.1, "Server
 /// Responsibilities"; RFC 9110, sections 8.3, 8.4 and 15.5.16). Its one error is want of memory; without a field
 /// Content-Type, and with two of them, it takes none.
-pub fn content_ok(alloc: Global, fields: &[Field], need: Need) -> Result<Judged, NoMemory>
+pub fn content_ok(alloc: Global, fields: &[Field], need: Need) -> Result<ContentVerdict, NoMemory>
     ensures judged { IfOk result (λ j. j ≡ content fields.now need) }
-    ensures plain { (length (values_of (codes "content-type") fields.now) ≡ 1 → ⊥) → IsOk result }
+    ensures plain { (length (field_values (codes "content-type") fields.now) ≡ 1 → ⊥) → IsOk result }
 {
     if !serve(alloc, need, fields)? {
-        return Ok(Judged::BadType);
+        return Ok(ContentVerdict::BadType);
     }
     if needs_body(need) && !is_uncoded(fields) {
-        return Ok(Judged::BadEncoding);
+        return Ok(ContentVerdict::BadEncoding);
     }
-    Ok(Judged::Good)
+    Ok(ContentVerdict::Good)
 }

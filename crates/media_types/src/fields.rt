@@ -1,7 +1,7 @@
 ghost use Rattle.std.specs.Prelude.{◌≡◌};
 ghost use Rattle.std.specs.Str.{str_eq_ignore_ascii_case};
 ghost use Rattle.std.specs.Iterator.{YieldsFirstRef, item_count};
-ghost use Rattle.request_model.specs.Negotiation.{values_of};
+ghost use Rattle.request_model.specs.Negotiation.{field_values};
 ghost use Rattle.media_types.specs.ValuesLeft.{values_left};
 
 use crate::types::same_in_any_case;
@@ -24,7 +24,7 @@ pub struct Values<'a> {
 impl<'a> Values<'a> {
     /// The values of the fields of this name.
     pub fn new(name: &'a [u8], fields: &'a [Field]) -> Values<'a>
-        ensures { values_left result ≡ values_of name.now fields.now }
+        ensures { values_left result ≡ field_values name.now fields.now }
     {
         Values { name, fields }
     }

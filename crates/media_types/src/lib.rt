@@ -16,5 +16,5 @@ mod types;
 pub use accepting::accept_ok;
 pub use contents::content_ok;
 pub use media::read_media;
-pub use request_model::{Judged, Media, Need, Param};
+pub use request_model::{ContentVerdict, Media, Need, Param};
 

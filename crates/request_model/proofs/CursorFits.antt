@@ -23,7 +23,7 @@ use Rattle.request_model.specs.Values.{value_from}
 use Rattle.request_model.specs.Cursors.{IsPlaceOf, cursor_text, place_from, place_of_cursor}
 use Rattle.request_model.specs.Queries.{sort_forms}
 use Rattle.std.proofs.lemmas.Slice.Eq.{bytes_eq-Decides}
-use Rattle.request_model.proofs.Inversions.{bind-Some, some_if-Some}
+use Rattle.request_model.specs.ReadingLaws.{bind-Some, some_if-Some}
 use Rattle.request_model.proofs.SchemaFileLemmas.{value_from-form}
 
 pub place_from-fits : (forms : List (Form × Bool)) (ds : List Data) (place : Place) → place_from forms ds ≡ Some place → IsPlaceOf forms place

@@ -29,7 +29,7 @@ use Rattle.request_model.specs.Words.{some_if}
 use Rattle.request_model.specs.Values.{integer, value_data, plain_value, value_from}
 use Rattle.request_model.specs.Cursors.{cursor_text, IsPlaceOf, place_from, place_of_cursor}
 use Rattle.request_model.specs.Options as option
-use Rattle.request_model.specs.ListLaws.{items_list-items_of}
+use Rattle.request_model.specs.ReadingLaws.{items_list-items_of}
 
 -- ---- one value
 

@@ -13,7 +13,7 @@ use Rattle.error_objects.specs.Refusals.{at_pointer}
 use Rattle.serde_json.specs.Data.{string}
 use Rattle.task_forms.specs.declared.operations.Member.{Member}
 use Rattle.json_forms.specs.Json.{json_of}
-use Rattle.request_model.specs.Documents.{create_of, update_of, linkage, local_id, is_lid, is_plain, keeps_rule}
+use Rattle.request_model.specs.Documents.{create_of, update_of, linkage_from, local_id, is_lid, is_by_path, keeps_rule}
 use Rattle.request_model.proofs.OnLiterals.{requests_on_literals}
 use Rattle.request_model.proofs.Blog.{blog}
 
@@ -97,11 +97,11 @@ no_change : update_ann (codes "{\"type\":\"people\",\"id\":\"ann\"}") ≡ Some (
 unfolding requests_on_literals
 no_change = refl
 
-empty_link : option_map (linkage blog 0 0 (codes "/data")) (json_of (codes "null")) ≡ Some (Ok [])
+empty_link : option_map (linkage_from blog 0 0 (codes "/data")) (json_of (codes "null")) ≡ Some (Ok [])
 unfolding requests_on_literals
 empty_link = refl
 
-both_names : option_map (linkage blog 0 0 (codes "/data")) (json_of (codes "{\"type\":\"people\",\"id\":\"1\",\"lid\":\"p\"}")) ≡ Some (Err (at_pointer code.BadDocument (codes "/data")))
+both_names : option_map (linkage_from blog 0 0 (codes "/data")) (json_of (codes "{\"type\":\"people\",\"id\":\"1\",\"lid\":\"p\"}")) ≡ Some (Err (at_pointer code.BadDocument (codes "/data")))
 unfolding requests_on_literals
 both_names = refl
 
@@ -270,7 +270,7 @@ relationship_no_object = refl
 
 -- a linkage of articles: `author` is 0, `comments` 1
 abbrev link : ℕ → List ℕ → Option (Result (List Member) Refusal)
-link rel text = option_map (linkage blog 0 rel (codes "/data")) (json_of text)
+link rel text = option_map (linkage_from blog 0 rel (codes "/data")) (json_of text)
 
 one_link : link 0 (codes "{\"type\":\"people\",\"id\":\"9\"}") ≡ Some (Ok (record { named = named.Id (record { kind = 2; id = codes "9" }); index = None } ∷ []))
 unfolding requests_on_literals
@@ -370,7 +370,7 @@ unfolding requests_on_literals
 unknown_link_of_update = refl
 
 -- what data names is not named by the path
-data_is_not_plain : is_plain stands.Data ≡ false
+data_is_not_plain : is_by_path stands.Data ≡ false
 unfolding requests_on_literals
 data_is_not_plain = refl
 

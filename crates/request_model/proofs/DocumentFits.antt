@@ -24,7 +24,7 @@ use Rattle.resource_schema.specs.declared.values.AttrValue.{AttrValue}
 use Rattle.resource_schema.specs.declared.values.AttrValue.TheVariants as value
 use Rattle.resource_schema.specs.Forms.{HasForm, has_form}
 use Rattle.resource_schema.specs.Kinds.{attributes_of, kind_name, number_of_kind, has_client_ids}
-use Rattle.resource_schema.specs.SchemaLaws.{kind_at}
+use Rattle.resource_schema.specs.SchemaLaws.{kind_at-parts}
 use Rattle.resource_schema.specs.SchemaRules.{is_schema, is_attribute}
 use Rattle.task_forms.specs.declared.operations.TheConstants.{LID_LIMIT}
 use Rattle.task_forms.specs.declared.operations.Named.{Named}
@@ -40,7 +40,7 @@ use Rattle.error_objects.specs.Refusals.{at_pointer}
 use Rattle.request_model.specs.Words.{some_if}
 use Rattle.request_model.specs.Results.{err_if}
 use Rattle.request_model.specs.Documents.{bad_document, object_at, text_member, keeps_rule, given_values, given_links, value_or_default, all_values, kind_named, resource_kind, client_id, is_lid, local_id, create_of, name_member, same_named, own_name, lid_in, target_of_update, who_of, update_of}
-use Rattle.request_model.proofs.Inversions.{bind-Ok, then-Ok, map-Ok, err_if-Ok, negated, ok_or-Ok, all_some-zip}
+use Rattle.request_model.specs.ReadingLaws.{bind-Ok, then-Ok, map-Ok, err_if-Ok, negated, ok_or-Ok, all_some-zip}
 use Rattle.request_model.proofs.Zips.{position-found}
 use Rattle.request_model.proofs.LinkageFits.{rule-IsNamed}
 use Rattle.request_model.proofs.FieldFits.{given_values-fit, given_links-fit}
@@ -160,7 +160,7 @@ attributes-keep : (schema : Schema) (kind : ℕ) → is_schema schema ≡ true �
 attributes-keep schema kind rules = by_look (slice_get schema kind) refl where
   by_look : (o : Option Kind) → slice_get schema kind ≡ o → list_all is_attribute (option_map_or (λ (k : Kind). k.attributes) o []) ≡ true
   by_look None e = refl
-  by_look (Some k) e = (kind_at schema kind k rules e).attributes
+  by_look (Some k) e = (kind_at-parts schema kind k rules e).attributes
 
 all_values-fit : (schema : Schema) (kind : ℕ) (given : List (ℕ × AttrValue)) (values : List AttrValue) → is_schema schema ≡ true → AllByRecursion (FitsValue schema kind) given → all_values schema kind given ≡ Some values
     → AllZip HasForm (attributes_of schema kind) values

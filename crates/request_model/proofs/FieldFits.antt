@@ -17,7 +17,7 @@ use Rattle.resource_schema.specs.declared.kinds.Relationship.{Relationship}
 use Rattle.resource_schema.specs.declared.values.AttrValue.{AttrValue}
 use Rattle.resource_schema.specs.Forms.{HasForm}
 use Rattle.resource_schema.specs.Kinds.{attributes_of, relationships_of, attribute_of, relationship_of}
-use Rattle.resource_schema.specs.SchemaLaws.{kind_at}
+use Rattle.resource_schema.specs.SchemaLaws.{kind_at-parts}
 use Rattle.resource_schema.specs.SchemaRules.{is_schema}
 use Rattle.task_forms.specs.declared.operations.Member.{Member}
 use Rattle.task_forms.specs.Fit.{AreRising, FitsValue, FitsValues, FitsLinkage, FitsLinks}
@@ -25,8 +25,8 @@ use Rattle.error_objects.specs.declared.codes.Code.TheVariants as code
 use Rattle.error_objects.specs.Refusals.{at_pointer}
 use Rattle.request_model.specs.Words.{begins}
 use Rattle.request_model.specs.Values.{value_from}
-use Rattle.request_model.specs.Documents.{bad_document, object_at, fields_at, given_value, given_values, given_link, given_links, linkage}
-use Rattle.request_model.proofs.Inversions.{bind-Ok, map-Ok, ok_or-Ok, all_ok-zip}
+use Rattle.request_model.specs.Documents.{bad_document, object_at, fields_at, given_value, given_values, given_link, given_links, linkage_from}
+use Rattle.request_model.specs.ReadingLaws.{bind-Ok, map-Ok, ok_or-Ok, all_ok-zip}
 use Rattle.request_model.proofs.Zips.{zip-into, zip-right, all-always, all-filter, position-found}
 use Rattle.request_model.proofs.Ascents.{Ascends, name_of, ascends-from_test, filter-ascends, place-rises}
 use Rattle.request_model.proofs.Ordered.{object-ordered, get-ordered}
@@ -73,7 +73,7 @@ attributes-ascend : (schema : Schema) (kind : ℕ) → is_schema schema ≡ true
 attributes-ascend schema kind rules = by_look (slice_get schema kind) refl where
   by_look : (o : Option Kind) → slice_get schema kind ≡ o → Ascends (map (λ (a : Attribute). a.name) (option_map_or (λ (k : Kind). k.attributes) o []))
   by_look None e = tt
-  by_look (Some k) e = ascends-from_test (map (λ a. a.name) k.attributes) (kind_at schema kind k rules e).rising_attributes
+  by_look (Some k) e = ascends-from_test (map (λ a. a.name) k.attributes) (kind_at-parts schema kind k rules e).rising_attributes
 
 given_value-fits : (schema : Schema) (kind : ℕ) (group : List ℕ) (m : List ℕ × Data) (v : ℕ × AttrValue) → given_value schema kind group m ≡ Ok v
     → (attribute_of schema kind m.0 ≡ Some v.0) × FitsValue schema kind v
@@ -106,7 +106,7 @@ relationships-ascend : (schema : Schema) (kind : ℕ) → is_schema schema ≡ t
 relationships-ascend schema kind rules = by_look (slice_get schema kind) refl where
   by_look : (o : Option Kind) → slice_get schema kind ≡ o → Ascends (map (λ (r : Relationship). r.name) (option_map_or (λ (k : Kind). k.relationships) o []))
   by_look None e = tt
-  by_look (Some k) e = ascends-from_test (map (λ r. r.name) k.relationships) (kind_at schema kind k rules e).rising_relationships
+  by_look (Some k) e = ascends-from_test (map (λ r. r.name) k.relationships) (kind_at-parts schema kind k rules e).rising_relationships
 
 -- a relationship that a name has is known
 pub relationship-known : (schema : Schema) (kind : ℕ) (name : List ℕ) (rel : ℕ) → relationship_of schema kind name ≡ Some rel → rel < length (relationships_of schema kind)
@@ -117,7 +117,7 @@ given_link-fits : (schema : Schema) (kind : ℕ) (group : List ℕ) (m : List �
 given_link-fits schema kind group m l rules e =
     let a = bind-Ok (ok_or (relationship_of schema kind m.0) (at_pointer code.UnknownField (group // m.0))) _ l e in
     let b = bind-Ok (ok_or (get (codes "data") m.1) (bad_document (group // m.0))) _ l a.2 in
-    let c = bind-Ok (linkage schema kind a.0 (group // m.0 // codes "data") b.0) _ l b.2 in
+    let c = bind-Ok (linkage_from schema kind a.0 (group // m.0 // codes "data") b.0) _ l b.2 in
     let place : relationship_of schema kind m.0 ≡ Some a.0 = ok_or-Ok (relationship_of schema kind m.0) _ a.0 a.1 in
     let same : (a.0, c.0) ≡ l = cc c.2 in
     let fits = linkage-fits schema kind a.0 (group // m.0 // codes "data") b.0 c.0 rules (relationship-known schema kind m.0 a.0 place) c.1 in

@@ -12,7 +12,6 @@ mod OperationExamples
 mod PinExamples
 mod PlanExamples
 mod LimitExamples
-pub mod Inversions
 pub mod Zips
 pub mod Ascents
 pub mod Ordered

@@ -13,11 +13,11 @@ use Rattle.std.proofs.Common.{ap, ◌∙◌, IsAscii, zero, suc, arith}
 use Rattle.std.proofs.lemmas.Str.{IsUtf8-from_ascii, is_utf8-from_IsUtf8}
 use Rattle.request_model.specs.Words.{all_ok, some_if}
 use Rattle.request_model.specs.Results.{◌>>◌, err_if}
-use Rattle.request_model.specs.ListLaws.{items_list-items_of}
+use Rattle.request_model.specs.ReadingLaws.{items_list-items_of}
 use Rattle.request_model.specs.Documents.{bad_document, indexed, many_linkage}
 use Rattle.request_model.specs.Values.{value_from}
 use Rattle.json_forms.specs.Json.{json_of, items_list}
-use Rattle.request_model.specs.Queries.{path_of, paths_of, sort_keys_of}
+use Rattle.request_model.specs.Queries.{include_path, paths_of, sort_keys_of}
 use Rattle.request_model.specs.OperationLists.{operations_of}
 use Rattle.request_model.proofs.OnLiterals.{requests_on_literals}
 use Rattle.request_model.proofs.Blog.{blog, text_attribute}
@@ -77,15 +77,15 @@ nine_sort_keys : sort_keys_of wide 0 (codes "a,b,c,d,e,f,g,h,i") ≡ None
 unfolding requests_on_literals
 nine_sort_keys = refl
 
-eight_names : is_some (path_of wide 0 (codes "up.up.up.up.up.up.up.up")) ≡ true
+eight_names : is_some (include_path wide 0 (codes "up.up.up.up.up.up.up.up")) ≡ true
 unfolding requests_on_literals
 eight_names = refl
 
-nine_names : path_of wide 0 (codes "up.up.up.up.up.up.up.up.up") ≡ None
+nine_names : include_path wide 0 (codes "up.up.up.up.up.up.up.up.up") ≡ None
 unfolding requests_on_literals
 nine_names = refl
 
-no_name_in_path : path_of wide 0 (codes "up..up") ≡ None
+no_name_in_path : include_path wide 0 (codes "up..up") ≡ None
 unfolding requests_on_literals
 no_name_in_path = refl
 

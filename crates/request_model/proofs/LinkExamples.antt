@@ -1,6 +1,6 @@
 -- Links, worked.
 use Rattle.std.specs.Prelude.{◌≡◌, [], ◌∷◌, codes, refl}
-use Rattle.request_model.specs.Links.{collection_link, resource_link, related_link, relationship_link, with_query}
+use Rattle.request_model.specs.Links.{collection_link, resource_link, related_link, relationship_link, path_with_query}
 use Rattle.request_model.proofs.OnLiterals.{requests_on_literals}
 
 to_collection : collection_link (codes "articles") ≡ codes "/articles"
@@ -20,6 +20,6 @@ unfolding requests_on_literals
 to_relationship = refl
 
 -- pairs as a form (URL Standard, section 5.2)
-to_page : with_query (codes "/articles") ((codes "page[size]", codes "2") ∷ (codes "sort", codes "-title,a b") ∷ []) ≡ codes "/articles?page%5Bsize%5D=2&sort=-title%2Ca+b"
+to_page : path_with_query (codes "/articles") ((codes "page[size]", codes "2") ∷ (codes "sort", codes "-title,a b") ∷ []) ≡ codes "/articles?page%5Bsize%5D=2&sort=-title%2Ca+b"
 unfolding requests_on_literals
 to_page = refl

@@ -23,8 +23,8 @@ use Rattle.error_objects.specs.Refusals.{at_pointer}
 use Rattle.error_objects.specs.declared.codes.Code.TheVariants as code
 use Rattle.request_model.specs.Words.{all_ok, result_map}
 use Rattle.request_model.specs.Results.{err_if}
-use Rattle.request_model.specs.Documents.{bad_document, named_by, named_in, keeps_rule, identifier, one_linkage, indexed, many_linkage, linkage}
-use Rattle.request_model.proofs.Inversions.{bind-Ok, then-Ok, map-Ok, err_if-Ok, negated, ok_or-Ok, all_ok-zip}
+use Rattle.request_model.specs.Documents.{bad_document, named_by, named_in, keeps_rule, identifier_from, one_linkage, indexed, many_linkage, linkage_from}
+use Rattle.request_model.specs.ReadingLaws.{bind-Ok, then-Ok, map-Ok, err_if-Ok, negated, ok_or-Ok, all_ok-zip}
 use Rattle.request_model.proofs.Zips.{zip-length, zip-right, all-always, all-into}
 
 -- ---- names
@@ -48,7 +48,7 @@ IsNamed-kind schema (named.Lid kind lid) fits = fits.0
 abbrev pub IsOf : Schema → ℕ → Named → Type 0
 IsOf schema kind n = IsNamed schema n × (kind_of n ≡ kind)
 
-identifier-fits : (schema : Schema) (kind : ℕ) (at : List ℕ) (d : Data) (n : Named) → kind < length schema → identifier schema kind at d ≡ Ok n → IsOf schema kind n
+identifier-fits : (schema : Schema) (kind : ℕ) (at : List ℕ) (d : Data) (n : Named) → kind < length schema → identifier_from schema kind at d ≡ Ok n → IsOf schema kind n
 identifier-fits schema kind at d n known e =
     let a = bind-Ok (ok_or (text_at (codes "type") d) (bad_document at)) _ n e in
     let b = bind-Ok (ok_or (named_in kind d) (bad_document at)) _ n a.2 in
@@ -63,10 +63,10 @@ identifier-fits schema kind at d n known e =
 -- ---- members
 
 one-fits : (schema : Schema) (kind : ℕ) (at : List ℕ) (d : Data) (members : List Member) → kind < length schema
-    → result_map (λ n. record { named = n; index = None } ∷ []) (identifier schema kind at d) ≡ Ok members
+    → result_map (λ n. record { named = n; index = None } ∷ []) (identifier_from schema kind at d) ≡ Ok members
     → AllByRecursion (λ m. IsOf schema kind m.named) members × FitsCount false members
 one-fits schema kind at d members known e =
-    let a = map-Ok (λ n. record { named = n; index = None } ∷ []) (identifier schema kind at d) members e in
+    let a = map-Ok (λ n. record { named = n; index = None } ∷ []) (identifier_from schema kind at d) members e in
     rw (sym a.2) ((identifier-fits schema kind at d a.0 known a.1, tt), (omega arith, (refl, tt)))
 
 one_linkage-fits : (schema : Schema) (kind : ℕ) (at : List ℕ) (d : Data) (members : List Member) → kind < length schema → one_linkage schema kind at d ≡ Ok members
@@ -81,7 +81,7 @@ one_linkage-fits schema kind at (object ms) members known e = one-fits schema ki
 indexed-fits : (schema : Schema) (kind : ℕ) (at : List ℕ) (p : ℕ × Data) (m : Member) → kind < length schema → indexed schema kind at p ≡ Ok m
     → (m.index ≡ Some p.0) × IsOf schema kind m.named
 indexed-fits schema kind at p m known e =
-    let a = map-Ok (λ name. record { named = name; index = Some p.0 }) (identifier schema kind (at // decimal p.0) p.1) m e in
+    let a = map-Ok (λ name. record { named = name; index = Some p.0 }) (identifier_from schema kind (at // decimal p.0) p.1) m e in
     rw (sym a.2) (refl, identifier-fits schema kind (at // decimal p.0) p.1 a.0 known a.1)
 
 are_indexed : (R : ℕ × Data → Member → Type 0) (n : ℕ) (ds : List Data) (members : List Member) → ((p : ℕ × Data) (m : Member) → R p m → m.index ≡ Some p.0) → AllZip R (enumerate_from n ds) members → AreIndexed n members
@@ -123,7 +123,7 @@ of_relationship schema members (Some r) h = (all-into _ _ members (λ m f. f.1) 
 
 -- the linkage of a known relationship
 pub linkage-fits : (schema : Schema) (kind rel : ℕ) (at : List ℕ) (d : Data) (members : List Member) → is_schema schema ≡ true → rel < length (relationships_of schema kind)
-    → linkage schema kind rel at d ≡ Ok members → FitsLinkage schema kind rel members
+    → linkage_from schema kind rel at d ≡ Ok members → FitsLinkage schema kind rel members
 linkage-fits schema kind rel at d members rules known e =
     let h = by_count schema (target_of schema kind rel) (is_many schema kind rel) at d members (target_of-lt schema kind rel rules) e in
     record { known = known; named = all-into _ _ members (λ m f. f.0) h.0; of_target = of_relationship schema members (slice_get (relationships_of schema kind) rel) h }

@@ -35,9 +35,9 @@ use Rattle.request_model.specs.declared.forms.Act.TheVariants as act
 use Rattle.request_model.specs.Words.{all_ok, result_map}
 use Rattle.request_model.specs.Results.{err_if}
 use Rattle.request_model.specs.Targets.{IsKnownTarget, target_of_path}
-use Rattle.request_model.specs.Documents.{bad_document, object_at, named_in, keeps_rule, linkage}
+use Rattle.request_model.specs.Documents.{bad_document, object_at, named_in, keeps_rule, linkage_from}
 use Rattle.request_model.specs.OperationLists.{op_at, optional_text, aim_of_ref, ref_aim, aim_of_target, href_aim, aim_by, if_many, act_of, with_data, operation_by, operation_of, absent, list_pointer, operations_of}
-use Rattle.request_model.proofs.Inversions.{bind-Ok, then-Ok, map-Ok, err_if-Ok, negated, ok_or-Ok, all_ok-zip}
+use Rattle.request_model.specs.ReadingLaws.{bind-Ok, then-Ok, map-Ok, err_if-Ok, negated, ok_or-Ok, all_ok-zip}
 use Rattle.request_model.proofs.Zips.{zip-length, zip-right, position-found}
 use Rattle.request_model.proofs.Ordered.{array-ordered, found-ordered, get-ordered}
 use Rattle.request_model.proofs.LinkageFits.{named_by-kind, rule-IsNamed, linkage-fits}
@@ -144,9 +144,9 @@ act_of-fits schema at d op.Remove aim.Elsewhere a fits e = cc e
 
 linked-fits : (schema : Schema) (at : List ℕ) (who : Who) (rel : ℕ) (make : List Member → Operation) (d : Data) (operation : Operation) → is_schema schema ≡ true → IsKnownLink schema who rel
     → ((members : List Member) → FitsLinkage schema (kind_of who.named) rel members → FitsOperation schema (make members))
-    → result_map make (linkage schema (kind_of who.named) rel at d) ≡ Ok operation → FitsOperation schema operation
+    → result_map make (linkage_from schema (kind_of who.named) rel at d) ≡ Ok operation → FitsOperation schema operation
 linked-fits schema at who rel make d operation rules known fits e =
-    let members = map-Ok make (linkage schema (kind_of who.named) rel at d) operation e in
+    let members = map-Ok make (linkage_from schema (kind_of who.named) rel at d) operation e in
     subst (FitsOperation schema) members.2 (fits members.0 (linkage-fits schema (kind_of who.named) rel at d members.0 rules known.1 members.1))
 
 with_data-fits : (schema : Schema) (at : List ℕ) (does : Act) (d : Data) (operation : Operation) → is_schema schema ≡ true → IsInByteOrder d → IsAct schema does → with_data schema at does d ≡ Ok operation → FitsOperation schema operation

@@ -3,7 +3,7 @@ use Rattle.std.specs.Prelude.{◌≡◌, ℕ, List, [], ◌∷◌, ◌++◌, tru
 use Rattle.request_model.proofs.OnLiterals.{requests_on_literals}
 use Rattle.http_messages.specs.declared.messages.Field.{Field}
 use Rattle.request_model.specs.declared.forms.Need.TheVariants as need
-use Rattle.request_model.specs.declared.forms.Judged.TheVariants.{Good, BadType, BadEncoding}
+use Rattle.request_model.specs.declared.forms.ContentVerdict.TheVariants.{Good, BadType, BadEncoding}
 use Rattle.request_model.specs.MediaTypes.{media_of}
 use Rattle.request_model.specs.Negotiation.{content, acceptable}
 

@@ -18,7 +18,7 @@ use Rattle.error_objects.specs.declared.codes.Code.TheVariants as code
 use Rattle.error_objects.specs.Refusals.{refusal}
 use Rattle.task_forms.specs.Queries.{no_query}
 use Rattle.resource_schema.specs.Kinds.{notes}
-use Rattle.request_model.specs.Plans.{planned, change_of, is_list}
+use Rattle.request_model.specs.Plans.{planned, change_of, is_list_target}
 use Rattle.request_model.proofs.OnLiterals.{requests_on_literals}
 use Rattle.request_model.proofs.Blog.{blog}
 
@@ -225,14 +225,14 @@ unfolding requests_on_literals
 change_of_related = refl
 
 -- only `/operations` is a list
-operations_are_list : is_list target.Operations ≡ true
+operations_are_list : is_list_target target.Operations ≡ true
 unfolding requests_on_literals
 operations_are_list = refl
 
-collection_is_no_list : is_list (target.Collection 0) ≡ false
+collection_is_no_list : is_list_target (target.Collection 0) ≡ false
 unfolding requests_on_literals
 collection_is_no_list = refl
 
-linkage_is_no_list : is_list (target.Linkage (record { kind = 0; id = codes "1" }) 1) ≡ false
+linkage_is_no_list : is_list_target (target.Linkage (record { kind = 0; id = codes "1" }) 1) ≡ false
 unfolding requests_on_literals
 linkage_is_no_list = refl

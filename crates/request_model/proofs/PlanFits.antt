@@ -33,10 +33,10 @@ use Rattle.request_model.specs.Results.{err_if}
 use Rattle.request_model.specs.Targets.{IsKnownTarget, split_target, target_of_path, allow_of, allows, need_of}
 use Rattle.request_model.specs.Negotiation.{content, acceptable}
 use Rattle.request_model.specs.Queries.{pairs_of, query_of, no_parameter}
-use Rattle.request_model.specs.Documents.{bad_document, create_of, update_of, linkage}
+use Rattle.request_model.specs.Documents.{bad_document, create_of, update_of, linkage_from}
 use Rattle.request_model.specs.OperationLists.{operations_of}
 use Rattle.request_model.specs.Plans.{body_value, primary_data, change, by_path, links_operation, data_pointer, update_task, change_of, judged, is_fetch, none_or_err, fetch_of, change_without_query, task_of, or_reply, not_allowed, task_or_reply, plan_by, planned}
-use Rattle.request_model.proofs.Inversions.{bind-Ok, then-Ok, map-Ok, err_if-Ok, negated, ok_or-Ok}
+use Rattle.request_model.specs.ReadingLaws.{bind-Ok, then-Ok, map-Ok, err_if-Ok, negated, ok_or-Ok}
 use Rattle.request_model.proofs.Ordered.{found-ordered}
 use Rattle.request_model.proofs.LinkageFits.{linkage-fits}
 use Rattle.request_model.proofs.TargetFits.{target-known}
@@ -123,7 +123,7 @@ change_of-fits order schema method body (target.Resource key) asked rules known 
 change_of-fits order schema method body (target.Related key rel) asked rules known allowed e = cc e
 change_of-fits order schema method body (target.Linkage key rel) asked rules known allowed e =
     let a = bind-Ok (primary_data body) _ asked e in
-    let b = bind-Ok (linkage schema key.kind rel data_pointer a.0) _ asked a.2 in
+    let b = bind-Ok (linkage_from schema key.kind rel data_pointer a.0) _ asked a.2 in
     let same : change reply_form.Empty (links_operation method (by_path key) rel b.0) ≡ asked = cc b.2 in
     let fits = linkage-fits schema key.kind rel data_pointer a.0 b.0 rules known.1 b.1 in
     subst (IsFit schema) same (one-fits schema reply_form.Empty (links_operation method (by_path key) rel b.0) (links-fit schema key rel method b.0 known.0 allowed fits) refl)

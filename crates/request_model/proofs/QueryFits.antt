@@ -30,8 +30,8 @@ use Rattle.request_model.specs.Targets.{IsKnownTarget}
 use Rattle.request_model.specs.Results.{err_if}
 use Rattle.request_model.specs.Cursors.{place_of_cursor}
 use Rattle.task_forms.specs.Queries.{first_page, no_query}
-use Rattle.request_model.specs.Queries.{size_digits, pairs_of, parameter_of, has_resources, is_page, primary_kind, knows, known_parameter, in_brackets, field_set_named, listed, rels_from, path_of, paths_of, field_set_of, sort_key_of, sort_keys_of, are_distinct, page_size_of, with_query, or_bad, with_parameter, has_name, with_pair, with_pairs, sort_forms, place_at, query_of}
-use Rattle.request_model.proofs.Inversions.{bind-Ok, then-Ok, map-Ok, err_if-Ok, ok_or-Ok, bind-Some, map-Some, some_if-Some, some_or_none, all_some-zip}
+use Rattle.request_model.specs.Queries.{size_digits, pairs_of, parameter_of, has_resources, is_page, primary_kind, knows, known_parameter, in_brackets, field_set_named, listed, rels_from, include_path, paths_of, field_set_of, sort_key_of, sort_keys_of, are_distinct, page_size_of, with_query, or_bad, with_parameter, has_name, with_pair, with_pairs, sort_forms, place_at, query_of}
+use Rattle.request_model.specs.ReadingLaws.{bind-Ok, then-Ok, map-Ok, err_if-Ok, ok_or-Ok, bind-Some, map-Some, some_if-Some, some_or_none, all_some-zip}
 use Rattle.request_model.proofs.Zips.{zip-right, all-always, position-found}
 use Rattle.request_model.proofs.CursorFits.{within-found, cursor-fits}
 
@@ -51,7 +51,7 @@ rels_from-follow schema kind (name ∷ names) rels e =
     let found = position-found (λ r. bytes_eq r.name name) (relationships_of schema kind) a.0 a.1 in
     subst (FollowsFrom schema kind) b.2 (leads_to (λ k. FollowsFrom schema k b.0) (slice_get (relationships_of schema kind) a.0) found.0 found.1 rest)
 
-path_of-follows : (schema : Schema) (kind : ℕ) (text : List ℕ) (p : Path) → path_of schema kind text ≡ Some p → FollowsFrom schema kind p.rels
+path_of-follows : (schema : Schema) (kind : ℕ) (text : List ℕ) (p : Path) → include_path schema kind text ≡ Some p → FollowsFrom schema kind p.rels
 path_of-follows schema kind text p e =
     let a = map-Some (λ rels. record { rels = rels }) (if nat_le (length (parts_at dot text)) PATH_LENGTH_LIMIT then rels_from schema kind (parts_at dot text) else None) p e in
     let b = some_or_none (nat_le (length (parts_at dot text)) PATH_LENGTH_LIMIT) (rels_from schema kind (parts_at dot text)) a.0 a.1 in
@@ -59,8 +59,8 @@ path_of-follows schema kind text p e =
 
 paths_of-follow : (schema : Schema) (kind : ℕ) (value : List ℕ) (paths : List Path) → paths_of schema kind value ≡ Some paths → AllByRecursion (λ p. FollowsFrom schema kind p.rels) paths
 paths_of-follow schema kind value paths e =
-    let a = some_or_none (nat_le (length (listed value)) PATH_LIMIT) (all_some (map (path_of schema kind) (listed value))) paths e in
-    zip-right (λ t. ⊤) _ (λ p. FollowsFrom schema kind p.rels) (listed value) paths (λ text p t q. path_of-follows schema kind text p q) (all-always (λ t. ⊤) (listed value) (λ t. tt)) (all_some-zip (path_of schema kind) (listed value) paths a.1)
+    let a = some_or_none (nat_le (length (listed value)) PATH_LIMIT) (all_some (map (include_path schema kind) (listed value))) paths e in
+    zip-right (λ t. ⊤) _ (λ p. FollowsFrom schema kind p.rels) (listed value) paths (λ text p t q. path_of-follows schema kind text p q) (all-always (λ t. ⊤) (listed value) (λ t. tt)) (all_some-zip (include_path schema kind) (listed value) paths a.1)
 
 field_set-known : (schema : Schema) (name value : List ℕ) (fs : ℕ × List (List ℕ)) → field_set_of schema name value ≡ Some fs → fs.0 < length schema
 field_set-known schema name value fs e =

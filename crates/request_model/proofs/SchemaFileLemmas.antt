@@ -1,4 +1,5 @@
 -- What is read of a schema file keeps the rules of schemas.
+use Rattle.std.proofs.lemmas.Bool.{and_from}
 use Rattle.std.specs.Prelude.{ℕ, ◌==◌, ◌&&◌, Bool, true, false, not, nat_lt, nat_le, List, [], ◌∷◌, codes, length, map, Option, Some, None, Ok, IfSome, option_map, option_and_then, ⊤, ◌<◌}
 use Rattle.std.specs.Option.{ok_or, option_map_or}
 use Rattle.std.specs.List.{position, list_all, AllZip, AllByRecursion}
@@ -23,8 +24,8 @@ use Rattle.resource_schema.specs.SchemaRules.{is_schema, is_kind, is_attribute, 
 use Rattle.request_model.specs.Words.{all_ok}
 use Rattle.request_model.specs.Results.{err_if}
 use Rattle.request_model.specs.Values.{value_from, plain_value}
-use Rattle.request_model.specs.SchemaFile.{form_of, many_of, fault, object_at, fields_at, flag_at, name_fault, default_at, attribute_from, relationship_from, attributes_at, relationships_at, kind_from, schema_of, NamesRise, FieldNamesRise, EachFieldNamesRise, SchemaNamesRise}
-use Rattle.request_model.proofs.Inversions.{bind-Ok, then-Ok, map-Ok, err_if-Ok, negated, ok_or-Ok, and_then-Some, map-Some, some_if-Some, all_ok-zip}
+use Rattle.request_model.specs.SchemaFile.{form_of, many_of, fault, file_object, file_fields, flag_at, name_fault, default_at, attribute_from, relationship_from, attributes_at, relationships_at, kind_from, schema_of, NamesRise, FieldNamesRise, EachFieldNamesRise, SchemaNamesRise}
+use Rattle.request_model.specs.ReadingLaws.{bind-Ok, then-Ok, map-Ok, err_if-Ok, negated, ok_or-Ok, and_then-Some, map-Some, some_if-Some, all_ok-zip}
 use Rattle.request_model.proofs.Zips.{zip-length, zip-right, zip-same, all-always, all-list_all, position-found}
 use Rattle.request_model.proofs.Ascents.{Ascends, name_of, members-ascend, test-from_ascends}
 use Rattle.request_model.proofs.Ordered.{as_object-is, object-ordered, get-ordered}
@@ -38,10 +39,6 @@ value_from-form f nullable d v e =
     let b = some_if-Some (has_form f nullable a.0) a.0 v a.2 in
     rw (sym b.1) b.0
 
-both : (a b : Bool) → a ≡ true → b ≡ true → (a && b) ≡ true
-both true b p q = q
-both false b p q = p
-
 -- a name that has no fault
 pub name-parts : (reserved : List (List ℕ)) (place name : List ℕ) (t : ⊤) → name_fault reserved place name ≡ Ok t → (is_name name ≡ true) × (not (is_one_of reserved name) ≡ true)
 name-parts reserved place name t e =
@@ -53,7 +50,7 @@ if_some P None x e p = cc e
 if_some P (Some y) x e p = let same : y ≡ x = cc e in subst P same p
 
 -- the members of an object stand in byte order
-pub object_at-ordered : (place : List ℕ) (o : Option Data) (l : List (List ℕ × Data)) → IfSome o NamesRise → object_at place o ≡ Ok l
+pub object_at-ordered : (place : List ℕ) (o : Option Data) (l : List (List ℕ × Data)) → IfSome o NamesRise → file_object place o ≡ Ok l
     → Ascends (map name_of l) × ((d : Data) → o ≡ Some d → EachFieldNamesRise d → AllByRecursion (λ m. FieldNamesRise m.1) l)
 object_at-ordered place None l order e = cc e
 object_at-ordered place (Some d) l order e =
@@ -66,13 +63,13 @@ few : (limit n : ℕ) → nat_lt limit n ≡ false → nat_le n limit ≡ true
 few limit n e = grind (arith, nat_tests, e)
 
 -- so do fields, which are few
-fields_at-ordered : (place : List ℕ) (limit : ℕ) (o : Option Data) (l : List (List ℕ × Data)) → IfSome o NamesRise → fields_at place limit o ≡ Ok l
+fields_at-ordered : (place : List ℕ) (limit : ℕ) (o : Option Data) (l : List (List ℕ × Data)) → IfSome o NamesRise → file_fields place limit o ≡ Ok l
     → Ascends (map name_of l) × (nat_le (length l) limit ≡ true)
 fields_at-ordered place limit None l order e = let same : l ≡ [] = cc e in rw same (tt, none_is_few limit) where
   none_is_few : (limit : ℕ) → nat_le 0 limit ≡ true
   none_is_few limit = grind (arith, nat_tests)
 fields_at-ordered place limit (Some d) l order e =
-    let a = bind-Ok (object_at place (Some d)) _ l e in
+    let a = bind-Ok (file_object place (Some d)) _ l e in
     let b = then-Ok (err_if (nat_lt limit (length a.0)) (fault place why.Limit)) (Ok a.0) l a.2 in
     let same : a.0 ≡ l = cc b.2 in
     let kept = object_at-ordered place (Some d) a.0 order a.1 in
@@ -89,13 +86,13 @@ default_at-form place f nullable (Some d) default e =
 attribute_from-keeps : (group : List ℕ) (m : List ℕ × Data) (a : Attribute) → attribute_from group m ≡ Ok a → (a.name ≡ m.0) × (is_attribute a ≡ true)
 attribute_from-keeps group m a e =
     let p = then-Ok (name_fault reserved_fields (group // m.0) m.0) _ a e in
-    let q = then-Ok (object_at (group // m.0) (Some m.1)) _ a p.2 in
+    let q = then-Ok (file_object (group // m.0) (Some m.1)) _ a p.2 in
     let r = bind-Ok (ok_or (option_and_then form_of (text_at (codes "type") m.1)) (fault (group // m.0 // codes "type") why.BadType)) _ a q.2 in
     let s = bind-Ok (flag_at (group // m.0 // codes "nullable") (get (codes "nullable") m.1)) _ a r.2 in
     let t = bind-Ok (default_at (group // m.0 // codes "default") r.0 s.0 (get (codes "default") m.1)) _ a s.2 in
     let named = name-parts reserved_fields (group // m.0) m.0 p.0 p.1 in
     let same : record { name = m.0; form = r.0; nullable = s.0; default = t.0 } ≡ a = cc t.2 in
-    subst (λ (a : Attribute). (a.name ≡ m.0) × (is_attribute a ≡ true)) same (refl, both _ _ (both _ _ named.0 named.1) (default_at-form (group // m.0 // codes "default") r.0 s.0 (get (codes "default") m.1) t.0 t.1))
+    subst (λ (a : Attribute). (a.name ≡ m.0) × (is_attribute a ≡ true)) same (refl, and_from _ _ (and_from _ _ named.0 named.1) (default_at-form (group // m.0 // codes "default") r.0 s.0 (get (codes "default") m.1) t.0 t.1))
 
 -- ---- relationships
 
@@ -104,7 +101,7 @@ relationship_from-keeps : (kinds attributes : List (List ℕ)) (group : List ℕ
 relationship_from-keeps kinds attributes group m r e =
     let p = then-Ok (name_fault reserved_fields (group // m.0) m.0) _ r e in
     let q = then-Ok (err_if (is_one_of attributes m.0) (fault (group // m.0) why.Shared)) _ r p.2 in
-    let o = then-Ok (object_at (group // m.0) (Some m.1)) _ r q.2 in
+    let o = then-Ok (file_object (group // m.0) (Some m.1)) _ r q.2 in
     let s = bind-Ok (ok_or (option_and_then many_of (text_at (codes "kind") m.1)) (fault (group // m.0 // codes "kind") why.BadKind)) _ r o.2 in
     let t = bind-Ok (ok_or (option_and_then (λ t. position (bytes_eq t) kinds) (text_at (codes "target") m.1)) (fault (group // m.0 // codes "target") why.BadTarget)) _ r s.2 in
     let named = name-parts reserved_fields (group // m.0) m.0 p.0 p.1 in
@@ -112,7 +109,7 @@ relationship_from-keeps kinds attributes group m r e =
     let place = and_then-Some (λ t. position (bytes_eq t) kinds) (text_at (codes "target") m.1) t.0 (ok_or-Ok _ _ t.0 t.1) in
     let within = (position-found (bytes_eq place.0) kinds t.0 place.2).3 in
     let same : record { name = m.0; many = s.0; target = t.0 } ≡ r = cc t.2 in
-    subst (λ (r : Relationship). (r.name ≡ m.0) × (is_relationship (length kinds) attributes r ≡ true)) same (refl, both _ _ (both _ _ (both _ _ named.0 named.1) free) (below t.0 (length kinds) within)) where
+    subst (λ (r : Relationship). (r.name ≡ m.0) × (is_relationship (length kinds) attributes r ≡ true)) same (refl, and_from _ _ (and_from _ _ (and_from _ _ named.0 named.1) free) (below t.0 (length kinds) within)) where
       below : (n k : ℕ) → n < k → nat_lt n k ≡ true
       below n k l = grind (arith, nat_tests, l)
 
@@ -143,12 +140,12 @@ kind_from-keeps : (kinds : List (List ℕ)) (m : List ℕ × Data) (k : Kind) �
 kind_from-keeps kinds m k order e =
     let at = codes "/types" // m.0 in
     let p = then-Ok (name_fault reserved_kinds (codes "/types" // m.0) m.0) _ k e in
-    let q = then-Ok (object_at (codes "/types" // m.0) (Some m.1)) _ k p.2 in
+    let q = then-Ok (file_object (codes "/types" // m.0) (Some m.1)) _ k p.2 in
     let r = bind-Ok (flag_at (codes "/types" // m.0 // codes "client-ids") (get (codes "client-ids") m.1)) _ k q.2 in
     let t = bind-Ok (attributes_at (codes "/types" // m.0) m.1) _ k r.2 in
     let v = bind-Ok (relationships_at kinds (map (λ a. a.name) t.0) (codes "/types" // m.0) m.1) _ k t.2 in
-    let s = bind-Ok (fields_at (codes "/types" // m.0 // codes "attributes") 64 (get (codes "attributes") m.1)) _ t.0 t.1 in
-    let u = bind-Ok (fields_at (codes "/types" // m.0 // codes "relationships") 32 (get (codes "relationships") m.1)) _ v.0 v.1 in
+    let s = bind-Ok (file_fields (codes "/types" // m.0 // codes "attributes") 64 (get (codes "attributes") m.1)) _ t.0 t.1 in
+    let u = bind-Ok (file_fields (codes "/types" // m.0 // codes "relationships") 32 (get (codes "relationships") m.1)) _ v.0 v.1 in
     let named = name-parts reserved_kinds (codes "/types" // m.0) m.0 p.0 p.1 in
     let own = fields_at-ordered _ 64 (get (codes "attributes") m.1) s.0 order.0 s.1 in
     let linked = fields_at-ordered _ 32 (get (codes "relationships") m.1) u.0 order.1 u.1 in
@@ -157,7 +154,7 @@ kind_from-keeps kinds m k order e =
     let same : record { name = m.0; client_ids = r.0; attributes = t.0; relationships = v.0 } ≡ k = cc v.2 in
     let few_attributes : nat_le (length t.0) 64 ≡ true = rw attributes.0 own.1 in
     let few_relationships : nat_le (length v.0) 32 ≡ true = rw relationships.0 linked.1 in
-    subst (λ (k : Kind). (k.name ≡ m.0) × (is_kind (length kinds) k ≡ true)) same (refl, both _ _ (both _ _ (both _ _ (both _ _ (both _ _ (both _ _ (both _ _ named.0 named.1) few_attributes) few_relationships) attributes.1) relationships.1) attributes.2) relationships.2)
+    subst (λ (k : Kind). (k.name ≡ m.0) × (is_kind (length kinds) k ≡ true)) same (refl, and_from _ _ (and_from _ _ (and_from _ _ (and_from _ _ (and_from _ _ (and_from _ _ (and_from _ _ named.0 named.1) few_attributes) few_relationships) attributes.1) relationships.1) attributes.2) relationships.2)
 
 -- ---- the schema
 
@@ -177,7 +174,7 @@ kinds-keep ms schema ascend order some limit e =
     let few_kinds : nat_le (length schema) 64 ≡ true = rw long (few 64 (length ms) limit) in
     let rising : are_rising (map (λ (k : Kind). k.name) schema) ≡ true = rw names (test-from_ascends (map name_of ms) ascend) in
     let all : AllByRecursion (λ k. is_kind (length schema) k ≡ true) schema = rw (sym count) each in
-    both _ _ (both _ _ (both _ _ some_kind few_kinds) rising) (all-list_all (is_kind (length schema)) schema all) where
+    and_from _ _ (and_from _ _ (and_from _ _ some_kind few_kinds) rising) (all-list_all (is_kind (length schema)) schema all) where
       length-same : {X : Type 0} (xs : List (List ℕ × X)) → length (map (λ x. x.0) xs) ≡ length xs
       length-same [] = refl
       length-same (x ∷ xs) = let rest = length-same xs in omega (arith, rest)
@@ -195,13 +192,13 @@ types-rise (Some types) rise = rise.0
 -- a schema that was read keeps the rules
 pub schema_of-is_schema : (d : Data) (schema : Schema) → schema_of d ≡ Ok schema → SchemaNamesRise d → is_schema schema ≡ true
 schema_of-is_schema d schema e order =
-    let p = then-Ok (object_at (codes "/") (Some d)) _ schema e in
-    let q = bind-Ok (object_at (codes "/types") (get (codes "types") d)) _ schema p.2 in
+    let p = then-Ok (file_object (codes "/") (Some d)) _ schema e in
+    let q = bind-Ok (file_object (codes "/types") (get (codes "types") d)) _ schema p.2 in
     let r = then-Ok (err_if (length q.0 == 0) (fault (codes "/types") why.Empty)) _ schema q.2 in
     let s = then-Ok (err_if (nat_lt 64 (length q.0)) (fault (codes "/types") why.Limit)) _ schema r.2 in
     let kept = object_at-ordered (codes "/types") (get (codes "types") d) q.0 (types-rise (get (codes "types") d) order) q.1 in
     kinds-keep q.0 schema kept.0 (each (get (codes "types") d) q.0 order q.1 kept.1) (err_if-Ok _ _ r.0 r.1) (err_if-Ok _ _ s.0 s.1) s.2 where
-      each : (o : Option Data) (l : List (List ℕ × Data)) → IfSome o (λ types. NamesRise types × EachFieldNamesRise types) → object_at (codes "/types") o ≡ Ok l
+      each : (o : Option Data) (l : List (List ℕ × Data)) → IfSome o (λ types. NamesRise types × EachFieldNamesRise types) → file_object (codes "/types") o ≡ Ok l
           → ((d : Data) → o ≡ Some d → EachFieldNamesRise d → AllByRecursion (λ m. FieldNamesRise m.1) l) → AllByRecursion (λ m. FieldNamesRise m.1) l
       each None l order e f = cc e
       each (Some types) l order e f = f types refl order.1

@@ -26,8 +26,8 @@ use Rattle.error_objects.specs.declared.codes.Code.TheVariants as code
 use Rattle.error_objects.specs.declared.refusals.Refusal.{Refusal}
 use Rattle.error_objects.specs.Refusals.{refusal, at_pointer, at_parameter, at_header, IsSourced}
 use Rattle.request_model.specs.declared.forms.Asked.{Asked}
-use Rattle.request_model.specs.declared.forms.Judged.{Judged}
-use Rattle.request_model.specs.declared.forms.Judged.TheVariants.{Good, BadType, BadEncoding}
+use Rattle.request_model.specs.declared.forms.ContentVerdict.{ContentVerdict}
+use Rattle.request_model.specs.declared.forms.ContentVerdict.TheVariants.{Good, BadType, BadEncoding}
 use Rattle.request_model.specs.declared.forms.Parameter.{Parameter}
 use Rattle.request_model.specs.declared.forms.Parameter.TheVariants as parameter
 use Rattle.request_model.specs.declared.forms.Op.{Op}
@@ -44,9 +44,9 @@ use Rattle.request_model.specs.Targets.{target_of_path, allow_of, need_of}
 use Rattle.request_model.specs.Negotiation.{content, acceptable}
 use Rattle.task_forms.specs.Queries.{no_query}
 use Rattle.request_model.specs.Queries.{pairs_of, query_of, no_parameter, known_parameter, or_bad, with_parameter, has_name, primary_kind, with_pair, with_pairs, sort_forms, place_at, paths_of, field_set_named, sort_keys_of, page_size_of}
-use Rattle.request_model.specs.Documents.{bad_document, object_at, text_member, fields_at, named_in, keeps_rule, identifier, one_linkage, indexed, many_linkage, linkage, given_value, given_values, given_link, given_links, all_values, kind_named, resource_kind, client_id, is_lid, local_id, create_of, name_member, same_named, own_name, lid_in, target_of_update, who_of, update_of}
+use Rattle.request_model.specs.Documents.{bad_document, object_at, text_member, fields_at, named_in, keeps_rule, identifier_from, one_linkage, indexed, many_linkage, linkage_from, given_value, given_values, given_link, given_links, all_values, kind_named, resource_kind, client_id, is_lid, local_id, create_of, name_member, same_named, own_name, lid_in, target_of_update, who_of, update_of}
 use Rattle.request_model.specs.OperationLists.{op_of, op_at, optional_text, aim_of_ref, ref_aim, href_aim, aim_by, if_many, act_of, with_data, operation_by, operation_of, absent, list_pointer, operations_of}
-use Rattle.request_model.specs.Plans.{body_value, primary_data, by_path, data_pointer, update_task, change_of, judged, is_fetch, none_or_err, fetch_of, change_without_query, task_of, is_list}
+use Rattle.request_model.specs.Plans.{body_value, primary_data, by_path, data_pointer, update_task, change_of, judged, is_fetch, none_or_err, fetch_of, change_without_query, task_of, is_list_target}
 
 -- ---- errors of readings, by their parts
 
@@ -98,7 +98,7 @@ module _ (in_list : Bool) where
   fields_at-sourced at None = tt
   fields_at-sourced at (Some d) = map-err Sourced _ (object_at at d) (object_at-sourced at d)
 
-  identifier-sourced : (schema : Schema) (kind : ℕ) (at : List ℕ) (d : Data) → IfErr (identifier schema kind at d) Sourced
+  identifier-sourced : (schema : Schema) (kind : ℕ) (at : List ℕ) (d : Data) → IfErr (identifier_from schema kind at d) Sourced
   identifier-sourced schema kind at d =
       bind-err Sourced (ok_or (text_at (codes "type") d) (bad_document at)) _ (ok_or-err Sourced (text_at (codes "type") d) (bad_document at) tt) (λ type.
       bind-err Sourced (ok_or (named_in kind d) (bad_document at)) _ (ok_or-err Sourced (named_in kind d) (bad_document at) tt) (λ name.
@@ -110,19 +110,19 @@ module _ (in_list : Bool) where
 
   one_linkage-sourced : (schema : Schema) (kind : ℕ) (at : List ℕ) (d : Data) → IfErr (one_linkage schema kind at d) Sourced
   one_linkage-sourced schema kind at null = tt
-  one_linkage-sourced schema kind at (boolean b) = map-err Sourced alone (identifier schema kind at (boolean b)) (identifier-sourced schema kind at (boolean b))
-  one_linkage-sourced schema kind at (number n) = map-err Sourced alone (identifier schema kind at (number n)) (identifier-sourced schema kind at (number n))
-  one_linkage-sourced schema kind at (string s) = map-err Sourced alone (identifier schema kind at (string s)) (identifier-sourced schema kind at (string s))
-  one_linkage-sourced schema kind at (array ds) = map-err Sourced alone (identifier schema kind at (array ds)) (identifier-sourced schema kind at (array ds))
-  one_linkage-sourced schema kind at (object ms) = map-err Sourced alone (identifier schema kind at (object ms)) (identifier-sourced schema kind at (object ms))
+  one_linkage-sourced schema kind at (boolean b) = map-err Sourced alone (identifier_from schema kind at (boolean b)) (identifier-sourced schema kind at (boolean b))
+  one_linkage-sourced schema kind at (number n) = map-err Sourced alone (identifier_from schema kind at (number n)) (identifier-sourced schema kind at (number n))
+  one_linkage-sourced schema kind at (string s) = map-err Sourced alone (identifier_from schema kind at (string s)) (identifier-sourced schema kind at (string s))
+  one_linkage-sourced schema kind at (array ds) = map-err Sourced alone (identifier_from schema kind at (array ds)) (identifier-sourced schema kind at (array ds))
+  one_linkage-sourced schema kind at (object ms) = map-err Sourced alone (identifier_from schema kind at (object ms)) (identifier-sourced schema kind at (object ms))
 
   many_linkage-sourced : (schema : Schema) (kind : ℕ) (at : List ℕ) (d : Data) → IfErr (many_linkage schema kind at d) Sourced
   many_linkage-sourced schema kind at d =
       bind-err Sourced (ok_or (as_array d) (bad_document at)) _ (ok_or-err Sourced (as_array d) (bad_document at) tt) (λ items.
       then-err Sourced (err_if (nat_le (2 ^ 32) (length (items_list items))) (bad_document at)) _ (err_if-err Sourced (nat_le (2 ^ 32) (length (items_list items))) (bad_document at) tt)
-      (all_ok-err Sourced (indexed schema kind at) (enumerate_from 0 (items_list items)) (λ p. map-err Sourced _ (identifier schema kind (at // decimal p.0) p.1) (identifier-sourced schema kind (at // decimal p.0) p.1))))
+      (all_ok-err Sourced (indexed schema kind at) (enumerate_from 0 (items_list items)) (λ p. map-err Sourced _ (identifier_from schema kind (at // decimal p.0) p.1) (identifier-sourced schema kind (at // decimal p.0) p.1))))
 
-  linkage-sourced : (schema : Schema) (kind rel : ℕ) (at : List ℕ) (d : Data) → IfErr (linkage schema kind rel at d) Sourced
+  linkage-sourced : (schema : Schema) (kind rel : ℕ) (at : List ℕ) (d : Data) → IfErr (linkage_from schema kind rel at d) Sourced
   linkage-sourced schema kind rel at d =
       test-err Sourced (is_many schema kind rel) (many_linkage schema (target_of schema kind rel) at d) (one_linkage schema (target_of schema kind rel) at d) (many_linkage-sourced schema (target_of schema kind rel) at d) (one_linkage-sourced schema (target_of schema kind rel) at d)
 
@@ -141,7 +141,7 @@ module _ (in_list : Bool) where
   given_link-sourced schema kind group m =
       bind-err Sourced (ok_or (relationship_of schema kind m.0) (at_pointer code.UnknownField (group // m.0))) _ (ok_or-err Sourced (relationship_of schema kind m.0) (at_pointer code.UnknownField (group // m.0)) tt) (λ rel.
       bind-err Sourced (ok_or (get (codes "data") m.1) (bad_document (group // m.0))) _ (ok_or-err Sourced (get (codes "data") m.1) (bad_document (group // m.0)) tt) (λ link.
-      bind-err Sourced (linkage schema kind rel (group // m.0 // codes "data") link) _ (linkage-sourced schema kind rel (group // m.0 // codes "data") link) (λ members. tt)))
+      bind-err Sourced (linkage_from schema kind rel (group // m.0 // codes "data") link) _ (linkage-sourced schema kind rel (group // m.0 // codes "data") link) (λ members. tt)))
 
   given_links-sourced : (schema : Schema) (kind : ℕ) (at : List ℕ) (d : Data) → IfErr (given_links schema kind at d) Sourced
   given_links-sourced schema kind at d =
@@ -282,9 +282,9 @@ with_data-sourced : (schema : Schema) (at : List ℕ) (does : Act) (d : Data) �
 with_data-sourced schema at (act.Creates endpoint) d = create_of-sourced true schema endpoint at d (always endpoint)
 with_data-sourced schema at (act.Updates endpoint) d = update_of-sourced true schema endpoint at d (always endpoint)
 with_data-sourced schema at (act.Removes who) d = tt
-with_data-sourced schema at (act.Adds who rel) d = map-err Listed (AddLinks who rel) (linkage schema (kind_of who.named) rel at d) (linkage-sourced true schema (kind_of who.named) rel at d)
-with_data-sourced schema at (act.Sets who rel) d = map-err Listed (SetLinks who rel) (linkage schema (kind_of who.named) rel at d) (linkage-sourced true schema (kind_of who.named) rel at d)
-with_data-sourced schema at (act.Drops who rel) d = map-err Listed (DropLinks who rel) (linkage schema (kind_of who.named) rel at d) (linkage-sourced true schema (kind_of who.named) rel at d)
+with_data-sourced schema at (act.Adds who rel) d = map-err Listed (AddLinks who rel) (linkage_from schema (kind_of who.named) rel at d) (linkage-sourced true schema (kind_of who.named) rel at d)
+with_data-sourced schema at (act.Sets who rel) d = map-err Listed (SetLinks who rel) (linkage_from schema (kind_of who.named) rel at d) (linkage-sourced true schema (kind_of who.named) rel at d)
+with_data-sourced schema at (act.Drops who rel) d = map-err Listed (DropLinks who rel) (linkage_from schema (kind_of who.named) rel at d) (linkage-sourced true schema (kind_of who.named) rel at d)
 
 operation_by-sourced : (schema : Schema) (at : List ℕ) (does : Act) (o : Option Data) → IfErr (operation_by schema at does o) Listed
 operation_by-sourced schema at (act.Removes who) o = tt
@@ -368,14 +368,14 @@ module _ (in_list : Bool) where
   primary_data-sourced : (bytes : List ℕ) → IfErr (primary_data bytes) Asks
   primary_data-sourced bytes = bind-err Asks (body_value bytes) _ (body_value-sourced bytes) (λ d. ok_or-err Asks (get (codes "data") d) (bad_document []) tt)
 
-  judged-sourced : (j : Judged) → IfErr (judged j) Asks
+  judged-sourced : (j : ContentVerdict) → IfErr (judged j) Asks
   judged-sourced Good = tt
   judged-sourced BadType = tt
   judged-sourced BadEncoding = tt
 
 -- ---- tasks
 
-change_of-sourced : (schema : Schema) (method body : List ℕ) (t : Target) → IfErr (change_of schema method body t) (IsSourced (is_list t))
+change_of-sourced : (schema : Schema) (method body : List ℕ) (t : Target) → IfErr (change_of schema method body t) (IsSourced (is_list_target t))
 change_of-sourced schema method body (target.Collection kind) =
     bind-err (IsSourced false) (primary_data body) _ (primary_data-sourced false body) (λ d.
     bind-err (IsSourced false) (create_of schema (Some kind) data_pointer d) _ (create_of-sourced false schema (Some kind) data_pointer d tt) (λ operation. tt))
@@ -386,23 +386,23 @@ change_of-sourced schema method body (target.Resource key) =
 change_of-sourced schema method body (target.Related key rel) = refl
 change_of-sourced schema method body (target.Linkage key rel) =
     bind-err (IsSourced false) (primary_data body) _ (primary_data-sourced false body) (λ d.
-    bind-err (IsSourced false) (linkage schema key.kind rel data_pointer d) _ (linkage-sourced false schema key.kind rel data_pointer d) (λ members. tt))
+    bind-err (IsSourced false) (linkage_from schema key.kind rel data_pointer d) _ (linkage-sourced false schema key.kind rel data_pointer d) (λ members. tt))
 change_of-sourced schema method body target.Operations =
     bind-err (IsSourced true) (body_value body) _ (body_value-sourced true body) (λ d.
     bind-err (IsSourced true) (operations_of schema d) _ (operations_of-sourced schema d) (λ operations. tt))
 
 -- a refusal of a request to a target
-task_of-sourced : (schema : Schema) (m : Message) (t : Target) (query : List ℕ) → IfErr (task_of schema m t query) (IsSourced (is_list t))
+task_of-sourced : (schema : Schema) (m : Message) (t : Target) (query : List ℕ) → IfErr (task_of schema m t query) (IsSourced (is_list_target t))
 task_of-sourced schema m t query =
-    then-err (IsSourced (is_list t)) (judged (content m.fields (need_of (allow_of schema t) m.method))) _ (judged-sourced (is_list t) (content m.fields (need_of (allow_of schema t) m.method)))
-    (then-err (IsSourced (is_list t)) (err_if (not (acceptable m.fields)) (at_header code.NotAcceptable (codes "Accept"))) _ (err_if-err (IsSourced (is_list t)) (not (acceptable m.fields)) (at_header code.NotAcceptable (codes "Accept")) refl)
-    (test-err (IsSourced (is_list t)) (is_fetch m.method) (fetch_of schema t query) (change_without_query schema m.method m.body t query)
-    (map-err (IsSourced (is_list t)) _ (query_of schema t query) (query_of-sourced (is_list t) schema t query))
-    (then-err (IsSourced (is_list t)) (none_or_err (no_parameter (pairs_of query))) _ (no_parameter-sourced (is_list t) (pairs_of query)) (change_of-sourced schema m.method m.body t))))
+    then-err (IsSourced (is_list_target t)) (judged (content m.fields (need_of (allow_of schema t) m.method))) _ (judged-sourced (is_list_target t) (content m.fields (need_of (allow_of schema t) m.method)))
+    (then-err (IsSourced (is_list_target t)) (err_if (not (acceptable m.fields)) (at_header code.NotAcceptable (codes "Accept"))) _ (err_if-err (IsSourced (is_list_target t)) (not (acceptable m.fields)) (at_header code.NotAcceptable (codes "Accept")) refl)
+    (test-err (IsSourced (is_list_target t)) (is_fetch m.method) (fetch_of schema t query) (change_without_query schema m.method m.body t query)
+    (map-err (IsSourced (is_list_target t)) _ (query_of schema t query) (query_of-sourced (is_list_target t) schema t query))
+    (then-err (IsSourced (is_list_target t)) (none_or_err (no_parameter (pairs_of query))) _ (no_parameter-sourced (is_list_target t) (pairs_of query)) (change_of-sourced schema m.method m.body t))))
 
 from_err : {A : Type 0} (P : Refusal → Type 0) (r : Result A Refusal) (e : Refusal) → IfErr r P → r ≡ Err e → P e
 from_err P (Ok x) e p is = cc is
 from_err P (Err f) e p is = let same : f ≡ e = cc is in subst P same p
 
-pub refused-sourced : (schema : Schema) (m : Message) (t : Target) (query : List ℕ) (r : Refusal) → task_of schema m t query ≡ Err r → IsSourced (is_list t) r
-refused-sourced schema m t query r e = from_err (IsSourced (is_list t)) (task_of schema m t query) r (task_of-sourced schema m t query) e
+pub refused-sourced : (schema : Schema) (m : Message) (t : Target) (query : List ℕ) (r : Refusal) → task_of schema m t query ≡ Err r → IsSourced (is_list_target t) r
+refused-sourced schema m t query r e = from_err (IsSourced (is_list_target t)) (task_of schema m t query) r (task_of-sourced schema m t query) e

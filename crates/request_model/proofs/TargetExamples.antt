@@ -6,7 +6,7 @@ use Rattle.http_messages.specs.declared.messages.Allow.{Allow}
 use Rattle.http_messages.specs.declared.messages.Allow.TheVariants as allow
 use Rattle.http_messages.specs.ReplyText as text_of
 use Rattle.request_model.specs.declared.forms.Need.TheVariants as need
-use Rattle.request_model.specs.Targets.{split_target, target_of_path, allow_of, methods, allows, need_of}
+use Rattle.request_model.specs.Targets.{split_target, target_of_path, allow_of, allowed_methods, allows, need_of}
 use Rattle.request_model.proofs.Blog.{blog}
 
 in_origin_form : split_target (codes "/notes?page[size]=2?") ≡ Some (codes "/notes", codes "page[size]=2?")
@@ -61,7 +61,7 @@ joined (m ∷ []) = m
 joined (m ∷ n ∷ ms) = m ++ codes ", " ++ joined (n ∷ ms)
 
 -- what the field Allow says is the list of the methods that are answered (RFC 9110, section 10.2.1)
-allow_names_methods : (a : Allow) → text_of.methods a ≡ joined (methods a)
+allow_names_methods : (a : Allow) → text_of.methods a ≡ joined (allowed_methods a)
 unfolding joined
 allow_names_methods allow.Nothing = refl
 allow_names_methods allow.Collection = refl
@@ -71,7 +71,7 @@ allow_names_methods allow.One = refl
 allow_names_methods allow.Many = refl
 allow_names_methods allow.Operations = refl
 
-to_one_methods : methods (allow_of blog (target.Linkage (record { kind = 0; id = codes "1" }) 0)) ≡ codes "GET" ∷ codes "HEAD" ∷ codes "PATCH" ∷ []
+to_one_methods : allowed_methods (allow_of blog (target.Linkage (record { kind = 0; id = codes "1" }) 0)) ≡ codes "GET" ∷ codes "HEAD" ∷ codes "PATCH" ∷ []
 to_one_methods = refl
 
 unknown_method : allows allow.Resource (codes "PUT") ≡ false
@@ -191,27 +191,27 @@ encoded_slash = refl
 
 -- ---- methods
 
-of_collection : methods allow.Collection ≡ codes "GET" ∷ codes "HEAD" ∷ codes "POST" ∷ []
+of_collection : allowed_methods allow.Collection ≡ codes "GET" ∷ codes "HEAD" ∷ codes "POST" ∷ []
 unfolding requests_on_literals
 of_collection = refl
 
-of_resource : methods allow.Resource ≡ codes "GET" ∷ codes "HEAD" ∷ codes "PATCH" ∷ codes "DELETE" ∷ []
+of_resource : allowed_methods allow.Resource ≡ codes "GET" ∷ codes "HEAD" ∷ codes "PATCH" ∷ codes "DELETE" ∷ []
 unfolding requests_on_literals
 of_resource = refl
 
-of_related : methods allow.Related ≡ codes "GET" ∷ codes "HEAD" ∷ []
+of_related : allowed_methods allow.Related ≡ codes "GET" ∷ codes "HEAD" ∷ []
 unfolding requests_on_literals
 of_related = refl
 
-of_one : methods allow.One ≡ codes "GET" ∷ codes "HEAD" ∷ codes "PATCH" ∷ []
+of_one : allowed_methods allow.One ≡ codes "GET" ∷ codes "HEAD" ∷ codes "PATCH" ∷ []
 unfolding requests_on_literals
 of_one = refl
 
-of_many : methods allow.Many ≡ codes "GET" ∷ codes "HEAD" ∷ codes "PATCH" ∷ codes "POST" ∷ codes "DELETE" ∷ []
+of_many : allowed_methods allow.Many ≡ codes "GET" ∷ codes "HEAD" ∷ codes "PATCH" ∷ codes "POST" ∷ codes "DELETE" ∷ []
 unfolding requests_on_literals
 of_many = refl
 
-of_operations : methods allow.Operations ≡ codes "POST" ∷ []
+of_operations : allowed_methods allow.Operations ≡ codes "POST" ∷ []
 unfolding requests_on_literals
 of_operations = refl
 

@@ -11,7 +11,7 @@ use Rattle.resource_schema.specs.Kinds.{number_of_kind, relationship_of, relatio
 use Rattle.task_forms.specs.Fit.{IsKnownKey}
 use Rattle.request_model.specs.Words.{parts_at, slash}
 use Rattle.request_model.specs.Targets.{IsKnownTarget, decode_segment, kind_at, key_at, relationship_at, top_target, related_target, linkage_target, target_of_pieces, target_of_path}
-use Rattle.request_model.proofs.Inversions.{bind-Some, map-Some, some_if-Some, some_or_none}
+use Rattle.request_model.specs.ReadingLaws.{bind-Some, map-Some, some_if-Some, some_or_none}
 use Rattle.request_model.proofs.Zips.{position-found}
 use Rattle.request_model.proofs.FieldFits.{relationship-known}
 

@@ -73,8 +73,8 @@ keeps_rule (named.Id key) = is_id key.id
 keeps_rule (named.Lid kind lid) = is_utf8 lid
 
 -- a resource identifier of a type (JSON:API 1.1, "Resource Identifier Objects")
-abbrev pub identifier : Schema → ℕ → List ℕ → Data → Result Named Refusal
-identifier schema kind at d = do
+abbrev pub identifier_from : Schema → ℕ → List ℕ → Data → Result Named Refusal
+identifier_from schema kind at d = do
   type ← ok_or (text_at (codes "type") d) (bad_document at)
   name ← ok_or (named_in kind d) (bad_document at)
   err_if (not (bytes_eq type (kind_name schema kind))) (at_pointer code.WrongTarget (at // codes "type"))
@@ -84,11 +84,11 @@ identifier schema kind at d = do
 -- null, or one identifier
 abbrev pub one_linkage : Schema → ℕ → List ℕ → Data → Result (List Member) Refusal
 one_linkage schema kind at null = Ok []
-one_linkage schema kind at d = result_map (λ n. record { named = n; index = None } ∷ []) (identifier schema kind at d)
+one_linkage schema kind at d = result_map (λ n. record { named = n; index = None } ∷ []) (identifier_from schema kind at d)
 
 -- an identifier of an array, with its place
 abbrev pub indexed : Schema → ℕ → List ℕ → ℕ × Data → Result Member Refusal
-indexed schema kind at (n, d) = result_map (λ name. record { named = name; index = Some n }) (identifier schema kind (at // decimal n) d)
+indexed schema kind at (n, d) = result_map (λ name. record { named = name; index = Some n }) (identifier_from schema kind (at // decimal n) d)
 
 -- an array of identifiers
 abbrev pub many_linkage : Schema → ℕ → List ℕ → Data → Result (List Member) Refusal
@@ -98,8 +98,8 @@ many_linkage schema kind at d = do
   all_ok (map (indexed schema kind at) (enumerate_from 0 (items_list items)))
 
 -- a linkage of a relationship, by its type and number
-abbrev pub linkage : Schema → ℕ → ℕ → List ℕ → Data → Result (List Member) Refusal
-linkage schema kind rel at d = if is_many schema kind rel then many_linkage schema (target_of schema kind rel) at d else one_linkage schema (target_of schema kind rel) at d
+abbrev pub linkage_from : Schema → ℕ → ℕ → List ℕ → Data → Result (List Member) Refusal
+linkage_from schema kind rel at d = if is_many schema kind rel then many_linkage schema (target_of schema kind rel) at d else one_linkage schema (target_of schema kind rel) at d
 
 -- ---- attributes and relationships (JSON:API 1.1, "Resource Objects")
 
@@ -124,7 +124,7 @@ given_link schema kind group (name, d) = do
   let at = group // name
   rel ← ok_or (relationship_of schema kind name) (at_pointer code.UnknownField at)
   link ← ok_or (get (codes "data") d) (bad_document at)
-  members ← linkage schema kind rel (at // codes "data") link
+  members ← linkage_from schema kind rel (at // codes "data") link
   Ok (rel, members)
 
 -- the relationships that are given, by number (JSON:API 1.1, "Relationships")
@@ -212,15 +212,15 @@ own_name kind at (Some id) (Some lid) = Err (bad_document at)
 own_name kind at None None = Err (bad_document at)
 
 -- the path of the request named the resource
-abbrev pub is_plain : Where → Bool
-is_plain stands.Plain = true
-is_plain stands.Ref = false
-is_plain stands.Href = false
-is_plain stands.Data = false
+abbrev pub is_by_path : Where → Bool
+is_by_path stands.Plain = true
+is_by_path stands.Ref = false
+is_by_path stands.Href = false
+is_by_path stands.Data = false
 
 -- local ids name resources in lists alone, whose targets no path of a request names
 abbrev pub lid_in : Option Who → Data → Option Data
-lid_in endpoint d = if option_map_or (λ who. is_plain who.place) endpoint false then None else get (codes "lid") d
+lid_in endpoint d = if option_map_or (λ who. is_by_path who.place) endpoint false then None else get (codes "lid") d
 
 -- the target that something else named, or else the one that the data names
 abbrev pub target_of_update : Option Who → List ℕ → Named → Result Who Refusal

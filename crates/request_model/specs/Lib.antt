@@ -11,8 +11,6 @@ pub mod SchemaFile
 pub mod Documents
 pub mod OperationLists
 pub mod Plans
-pub mod FirstErrors
 pub mod Pieces
 pub mod Links
-pub mod ListLaws
-pub mod ReadNames
+pub mod ReadingLaws

@@ -19,5 +19,5 @@ abbrev pub relationship_link : List ℕ → List ℕ → List ℕ → List ℕ
 relationship_link kind id rel = resource_link kind id ++ codes "/relationships/" ++ rel
 
 -- the path, `?` and the pairs as a form
-abbrev pub with_query : List ℕ → List (List ℕ × List ℕ) → List ℕ
-with_query path pairs = path ++ codes "?" ++ extend_pairs [] pairs
+abbrev pub path_with_query : List ℕ → List (List ℕ × List ℕ) → List ℕ
+path_with_query path pairs = path ++ codes "?" ++ extend_pairs [] pairs

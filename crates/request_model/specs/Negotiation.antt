@@ -7,14 +7,14 @@ use Rattle.request_model.specs.declared.forms.Media.{Media}
 use Rattle.request_model.specs.declared.forms.Param.{Param}
 use Rattle.request_model.specs.declared.forms.Need.{Need}
 use Rattle.request_model.specs.declared.forms.Need.TheVariants as need
-use Rattle.request_model.specs.declared.forms.Judged.{Judged}
-use Rattle.request_model.specs.declared.forms.Judged.TheVariants.{Good, BadType, BadEncoding}
+use Rattle.request_model.specs.declared.forms.ContentVerdict.{ContentVerdict}
+use Rattle.request_model.specs.declared.forms.ContentVerdict.TheVariants.{Good, BadType, BadEncoding}
 use Rattle.request_model.specs.Words.{parts_at, comma, space, is_any}
 use Rattle.request_model.specs.MediaTypes.{media_of, unquoted_pieces}
 
 -- the values of the fields of one name, in order (RFC 9110, section 5.3)
-abbrev pub values_of : List ℕ → List Field → List (List ℕ)
-values_of name fields = map (λ f. f.value) (filter (λ f. str_eq_ignore_ascii_case f.name name) fields)
+abbrev pub field_values : List ℕ → List Field → List (List ℕ)
+field_values name fields = map (λ f. f.value) (filter (λ f. str_eq_ignore_ascii_case f.name name) fields)
 
 -- ---- types of JSON:API
 
@@ -68,10 +68,10 @@ abbrev pub is_identity : List ℕ → Bool
 is_identity coding = str_eq_ignore_ascii_case coding (codes "identity")
 
 -- the type is judged before the encoding (RFC 9110, section 15.5.16)
-abbrev pub content : List Field → Need → Judged
+abbrev pub content : List Field → Need → ContentVerdict
 content fields n =
-    if not (serve n (values_of (codes "content-type") fields)) then BadType
-    else (if needs_body n && not (list_all is_identity (values_of (codes "content-encoding") fields)) then BadEncoding
+    if not (serve n (field_values (codes "content-type") fields)) then BadType
+    else (if needs_body n && not (list_all is_identity (field_values (codes "content-encoding") fields)) then BadEncoding
     else Good)
 
 -- ---- Accept (RFC 9110, section 12.5.1)
@@ -82,7 +82,7 @@ without_weight m = record m { params = filter (λ p. not (is_named (codes "q") p
 
 -- the elements that are media types of JSON:API
 abbrev pub accepted_types : List Field → List Media
-accepted_types fields = filter is_json_api (filter_map media_of (unquoted_pieces comma (join_with_byte comma (values_of (codes "accept") fields))))
+accepted_types fields = filter is_json_api (filter_map media_of (unquoted_pieces comma (join_with_byte comma (field_values (codes "accept") fields))))
 
 -- some such type is a good one, or there is none
 abbrev pub acceptable : List Field → Bool

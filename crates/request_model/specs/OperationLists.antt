@@ -32,7 +32,7 @@ use Rattle.resource_schema.specs.Kinds.{number_of_kind, relationship_of, is_many
 use Rattle.json_forms.specs.Json.{items_list, text_at}
 use Rattle.json_forms.specs.Pointer.{◌//◌}
 use Rattle.request_model.specs.Targets.{target_of_path}
-use Rattle.request_model.specs.Documents.{bad_document, object_at, text_member, named_in, keeps_rule, linkage, create_of, update_of}
+use Rattle.request_model.specs.Documents.{bad_document, object_at, text_member, named_in, keeps_rule, linkage_from, create_of, update_of}
 
 -- ---- the word of an operation
 
@@ -125,17 +125,17 @@ act_of schema at d op.Remove (aim.Relationship who rel) = if_many schema at who 
 act_of schema at d word aimed = Err (bad_document (aim_pointer at d))
 
 -- the operation on the members of a relationship
-abbrev pub linked : Schema → List ℕ → Who → ℕ → (List Member → Operation) → Data → Result Operation Refusal
-linked schema at who rel make d = result_map make (linkage schema (kind_of who.named) rel at d)
+abbrev pub with_members : Schema → List ℕ → Who → ℕ → (List Member → Operation) → Data → Result Operation Refusal
+with_members schema at who rel make d = result_map make (linkage_from schema (kind_of who.named) rel at d)
 
 -- the operation with its data
 abbrev pub with_data : Schema → List ℕ → Act → Data → Result Operation Refusal
 with_data schema at (act.Creates kind) d = create_of schema kind at d
 with_data schema at (act.Updates who) d = update_of schema who at d
 with_data schema at (act.Removes who) d = Ok (Remove who)
-with_data schema at (act.Adds who rel) d = linked schema at who rel (AddLinks who rel) d
-with_data schema at (act.Sets who rel) d = linked schema at who rel (SetLinks who rel) d
-with_data schema at (act.Drops who rel) d = linked schema at who rel (DropLinks who rel) d
+with_data schema at (act.Adds who rel) d = with_members schema at who rel (AddLinks who rel) d
+with_data schema at (act.Sets who rel) d = with_members schema at who rel (SetLinks who rel) d
+with_data schema at (act.Drops who rel) d = with_members schema at who rel (DropLinks who rel) d
 
 -- the removal of a resource needs no data
 abbrev pub operation_by : Schema → List ℕ → Act → Option Data → Result Operation Refusal

@@ -7,8 +7,8 @@ use Rattle.serde_json.specs.Find.{get}
 use Rattle.ident_rules.specs.declared.key.Key.{Key}
 use Rattle.resource_schema.specs.declared.schema.Schema.{Schema}
 use Rattle.http_messages.specs.declared.messages.Message.{Message}
-use Rattle.request_model.specs.declared.forms.Judged.{Judged}
-use Rattle.request_model.specs.declared.forms.Judged.TheVariants.{Good, BadType, BadEncoding}
+use Rattle.request_model.specs.declared.forms.ContentVerdict.{ContentVerdict}
+use Rattle.request_model.specs.declared.forms.ContentVerdict.TheVariants.{Good, BadType, BadEncoding}
 use Rattle.task_forms.specs.declared.operations.Named.TheVariants as named
 use Rattle.task_forms.specs.declared.operations.Where.TheVariants as stands
 use Rattle.task_forms.specs.declared.operations.Who.{Who}
@@ -35,7 +35,7 @@ use Rattle.json_forms.specs.Json.{json_of}
 use Rattle.request_model.specs.Targets.{split_target, target_of_path, allow_of, allows, need_of}
 use Rattle.request_model.specs.Negotiation.{content, acceptable}
 use Rattle.request_model.specs.Queries.{pairs_of, query_of, no_parameter}
-use Rattle.request_model.specs.Documents.{bad_document, create_of, update_of, linkage}
+use Rattle.request_model.specs.Documents.{bad_document, create_of, update_of, linkage_from}
 use Rattle.request_model.specs.OperationLists.{operations_of}
 use Rattle.error_objects.specs.ErrorReply.{error_reply}
 
@@ -89,7 +89,7 @@ change_of schema method body (target.Resource key) =
 change_of schema method body (target.Related key rel) = Err (refusal code.MethodNotAllowed)
 change_of schema method body (target.Linkage key rel) = do
   d ← primary_data body
-  members ← linkage schema key.kind rel data_pointer d
+  members ← linkage_from schema key.kind rel data_pointer d
   Ok (change reply_form.Empty (links_operation method (by_path key) rel members))
 change_of schema method body target.Operations = do
   d ← body_value body
@@ -99,7 +99,7 @@ change_of schema method body target.Operations = do
 -- ---- the order in which a request is judged
 
 -- the refusal of fields that describe the content wrongly (JSON:API 1.1, "Server Responsibilities")
-abbrev pub judged : Judged → Result ⊤ Refusal
+abbrev pub judged : ContentVerdict → Result ⊤ Refusal
 judged Good = Ok tt
 judged BadType = Err (at_header code.UnsupportedMediaType (codes "Content-Type"))
 judged BadEncoding = Err (at_header code.UnsupportedMediaType (codes "Content-Encoding"))
@@ -131,9 +131,9 @@ task_of schema m t query = do
   if is_fetch m.method then fetch_of schema t query else change_without_query schema m.method m.body t query
 
 -- the request is a list of operations
-abbrev pub is_list : Target → Bool
-is_list target.Operations = true
-is_list _ = false
+abbrev pub is_list_target : Target → Bool
+is_list_target target.Operations = true
+is_list_target _ = false
 
 -- a refusal as a reply
 abbrev pub or_reply : {A : Type 0} → Result A Refusal → Result A Reply

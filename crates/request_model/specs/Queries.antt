@@ -33,12 +33,12 @@ use Rattle.request_model.specs.Cursors.{place_of_cursor}
 -- ---- pairs (URL Standard, section 5.1)
 
 -- the text, with U+FFFD for what is no UTF-8
-abbrev pub text_of : List ℕ → List ℕ
-text_of bytes = utf8_lossy (decode bytes)
+abbrev pub decoded_text : List ℕ → List ℕ
+decoded_text bytes = utf8_lossy (decode bytes)
 
 -- the pairs of a query, decoded, in order
 abbrev pub pairs_of : List ℕ → List (List ℕ × List ℕ)
-pairs_of query = map (λ p. (text_of p.0, text_of p.1)) (raw_pairs query)
+pairs_of query = map (λ p. (decoded_text p.0, decoded_text p.1)) (raw_pairs query)
 
 -- ---- parameters of an endpoint
 
@@ -107,14 +107,14 @@ rels_from schema kind (name ∷ names) = option.◌>>=◌ (relationship_of schem
     (λ rel. option_map (λ rels. rel ∷ rels) (rels_from schema (target_of schema kind rel) names))
 
 -- a path of at most `PATH_LENGTH_LIMIT` names
-abbrev pub path_of : Schema → ℕ → List ℕ → Option Path
-path_of schema kind text =
+abbrev pub include_path : Schema → ℕ → List ℕ → Option Path
+include_path schema kind text =
     let names = parts_at dot text in
     option_map (λ rels. record { rels = rels }) (if nat_le (length names) PATH_LENGTH_LIMIT then rels_from schema kind names else None)
 
 -- at most `PATH_LIMIT` paths (JSON:API 1.1, "Inclusion of Related Resources")
 abbrev pub paths_of : Schema → ℕ → List ℕ → Option (List Path)
-paths_of schema kind value = if nat_le (length (listed value)) PATH_LIMIT then all_some (map (path_of schema kind) (listed value)) else None
+paths_of schema kind value = if nat_le (length (listed value)) PATH_LIMIT then all_some (map (include_path schema kind) (listed value)) else None
 
 -- fields of one type (JSON:API 1.1, "Sparse Fieldsets")
 abbrev pub field_set_of : Schema → List ℕ → List ℕ → Option (ℕ × List (List ℕ))

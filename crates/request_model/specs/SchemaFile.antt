@@ -32,14 +32,14 @@ fault place w = record { place = place; why = w }
 -- ---- parts
 
 -- the value is an object
-abbrev pub object_at : List ℕ → Option Data → Result (List (List ℕ × Data)) SchemaFault
-object_at place d = ok_or (option_map members_list (option_and_then as_object d)) (fault place why.NotObject)
+abbrev pub file_object : List ℕ → Option Data → Result (List (List ℕ × Data)) SchemaFault
+file_object place d = ok_or (option_map members_list (option_and_then as_object d)) (fault place why.NotObject)
 
 -- an object of at most so many fields, which may be absent
-abbrev pub fields_at : List ℕ → ℕ → Option Data → Result (List (List ℕ × Data)) SchemaFault
-fields_at place limit None = Ok []
-fields_at place limit (Some d) = do
-  fields ← object_at place (Some d)
+abbrev pub file_fields : List ℕ → ℕ → Option Data → Result (List (List ℕ × Data)) SchemaFault
+file_fields place limit None = Ok []
+file_fields place limit (Some d) = do
+  fields ← file_object place (Some d)
   err_if (nat_lt limit (length fields)) (fault place why.Limit)
   Ok fields
 
@@ -73,7 +73,7 @@ abbrev pub attribute_from : List ℕ → List ℕ × Data → Result Attribute S
 attribute_from group (name, d) = do
   let at = group // name
   name_fault reserved_fields at name
-  object_at at (Some d)
+  file_object at (Some d)
   f ← ok_or (option_and_then form_of (text_at (codes "type") d)) (fault (at // codes "type") why.BadType)
   nullable ← flag_at (at // codes "nullable") (get (codes "nullable") d)
   default ← default_at (at // codes "default") f nullable (get (codes "default") d)
@@ -91,7 +91,7 @@ relationship_from kinds attributes group (name, d) = do
   let at = group // name
   name_fault reserved_fields at name
   err_if (is_one_of attributes name) (fault at why.Shared)
-  object_at at (Some d)
+  file_object at (Some d)
   many ← ok_or (option_and_then many_of (text_at (codes "kind") d)) (fault (at // codes "kind") why.BadKind)
   target ← ok_or (option_and_then (λ t. position (bytes_eq t) kinds) (text_at (codes "target") d)) (fault (at // codes "target") why.BadTarget)
   Ok (record { name = name; many = many; target = target })
@@ -101,13 +101,13 @@ relationship_from kinds attributes group (name, d) = do
 -- the attributes of a type, each in order
 abbrev pub attributes_at : List ℕ → Data → Result (List Attribute) SchemaFault
 attributes_at at d = do
-  own ← fields_at (at // codes "attributes") ATTRIBUTE_LIMIT (get (codes "attributes") d)
+  own ← file_fields (at // codes "attributes") ATTRIBUTE_LIMIT (get (codes "attributes") d)
   all_ok (map (attribute_from (at // codes "attributes")) own)
 
 -- the relationships of a type whose attributes have these names, each in order
 abbrev pub relationships_at : List (List ℕ) → List (List ℕ) → List ℕ → Data → Result (List Relationship) SchemaFault
 relationships_at kinds attributes at d = do
-  linked ← fields_at (at // codes "relationships") RELATIONSHIP_LIMIT (get (codes "relationships") d)
+  linked ← file_fields (at // codes "relationships") RELATIONSHIP_LIMIT (get (codes "relationships") d)
   all_ok (map (relationship_from kinds attributes (at // codes "relationships")) linked)
 
 -- one type: its name, itself as an object, `client-ids`, `attributes`, `relationships`
@@ -115,7 +115,7 @@ abbrev pub kind_from : List (List ℕ) → List ℕ × Data → Result Kind Sche
 kind_from kinds (name, d) = do
   let at = codes "/types" // name
   name_fault reserved_kinds at name
-  object_at at (Some d)
+  file_object at (Some d)
   client_ids ← flag_at (at // codes "client-ids") (get (codes "client-ids") d)
   attributes ← attributes_at at d
   relationships ← relationships_at kinds (map (λ a. a.name) attributes) at d
@@ -124,8 +124,8 @@ kind_from kinds (name, d) = do
 -- the schema, or the first fault of a walk through the value in byte order of names
 abbrev pub schema_of : Data → Result Schema SchemaFault
 schema_of d = do
-  object_at (codes "/") (Some d)
-  types ← object_at (codes "/types") (get (codes "types") d)
+  file_object (codes "/") (Some d)
+  types ← file_object (codes "/types") (get (codes "types") d)
   err_if (length types == 0) (fault (codes "/types") why.Empty)
   err_if (nat_lt KIND_LIMIT (length types)) (fault (codes "/types") why.Limit)
   all_ok (map (kind_from (map (λ t. t.0) types)) types)

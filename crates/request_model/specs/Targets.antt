@@ -114,14 +114,14 @@ allow_of schema (target.Linkage key rel) = if is_many schema key.kind rel then a
 allow_of schema target.Operations = allow.Operations
 
 -- the methods of each (JSON:API 1.1, "Fetching Data" and "Creating, Updating and Deleting Resources")
-abbrev pub methods : Allow → List (List ℕ)
-methods allow.Nothing = []
-methods allow.Collection = codes "GET" ∷ codes "HEAD" ∷ codes "POST" ∷ []
-methods allow.Resource = codes "GET" ∷ codes "HEAD" ∷ codes "PATCH" ∷ codes "DELETE" ∷ []
-methods allow.Related = codes "GET" ∷ codes "HEAD" ∷ []
-methods allow.One = codes "GET" ∷ codes "HEAD" ∷ codes "PATCH" ∷ []
-methods allow.Many = codes "GET" ∷ codes "HEAD" ∷ codes "PATCH" ∷ codes "POST" ∷ codes "DELETE" ∷ []
-methods allow.Operations = codes "POST" ∷ []
+abbrev pub allowed_methods : Allow → List (List ℕ)
+allowed_methods allow.Nothing = []
+allowed_methods allow.Collection = codes "GET" ∷ codes "HEAD" ∷ codes "POST" ∷ []
+allowed_methods allow.Resource = codes "GET" ∷ codes "HEAD" ∷ codes "PATCH" ∷ codes "DELETE" ∷ []
+allowed_methods allow.Related = codes "GET" ∷ codes "HEAD" ∷ []
+allowed_methods allow.One = codes "GET" ∷ codes "HEAD" ∷ codes "PATCH" ∷ []
+allowed_methods allow.Many = codes "GET" ∷ codes "HEAD" ∷ codes "PATCH" ∷ codes "POST" ∷ codes "DELETE" ∷ []
+allowed_methods allow.Operations = codes "POST" ∷ []
 
 -- the methods with a body
 abbrev pub body_methods : Allow → List (List ℕ)
@@ -135,7 +135,7 @@ body_methods allow.Operations = codes "POST" ∷ []
 
 -- the target answers this method
 abbrev pub allows : Allow → List ℕ → Bool
-allows a method = is_one_of (methods a) method
+allows a method = is_one_of (allowed_methods a) method
 
 -- `/operations` needs the extension of the atomic operations, other bodies are documents
 abbrev pub body_of : Allow → Need

@@ -34,7 +34,7 @@ pub enum Need {
 
 /// How the fields of a request that describe its content are judged (JSON:API 1.1, "Server Responsibilities").
 #[derive(Clone, Copy, Debug, PartialEq, Eq)]
-pub enum Judged {
+pub enum ContentVerdict {
     /// The content can be read.
     Good,
     /// Content-Type names no type that is read here.

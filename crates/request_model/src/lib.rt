@@ -6,7 +6,7 @@
 mod forms;
 mod laws;
 
-pub use forms::{Act, Aim, Asked, Judged, Media, Need, Op, Param, Parameter, Quoting};
+pub use forms::{Act, Aim, Asked, ContentVerdict, Media, Need, Op, Param, Parameter, Quoting};
 pub use laws::{
     cursor_has_one_spelling, cursor_is_read_back, found_target_is_known, planned_task_is_fit,
     read_schema_keeps_rules, refusal_names_its_source,

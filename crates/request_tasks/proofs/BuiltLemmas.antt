@@ -2,7 +2,8 @@
 use Rattle.std.specs.Prelude.{ℕ, ◌&&◌, Bool, true, false, not, if◌then◌else◌, List, [], ◌∷◌, codes, Some, Result, Ok, Err}
 use Rattle.std.specs.Option.{ok_or}
 use Rattle.std.specs.Str.{bytes_eq}
-use Rattle.std.proofs.Common.{◌≡◌, refl, subst, arith}
+use Rattle.std.proofs.Common.{◌≡◌, refl, sym, ◌∙◌, subst, inl, inr, arith}
+use Rattle.std.proofs.lemmas.Bool.{and_parts}
 use Rattle.http_messages.specs.declared.messages.Message.{Message}
 use Rattle.http_messages.specs.declared.messages.Reply.{Reply}
 use Rattle.resource_schema.specs.declared.schema.Schema.{Schema}
@@ -22,76 +23,24 @@ use Rattle.request_model.specs.Targets.{split_target, target_of_path, allow_of, 
 use Rattle.request_model.specs.Negotiation.{content, acceptable}
 use Rattle.task_forms.specs.Queries.{no_query}
 use Rattle.request_model.specs.Queries.{is_page, pairs_of, no_parameter}
-use Rattle.request_model.specs.Documents.{create_of, update_of, linkage}
-use Rattle.request_model.specs.Plans.{primary_data, change, by_path, links_operation, data_pointer, update_task, change_of, judged, is_fetch, is_list, none_or_err, fetch_of, change_without_query, task_of, or_reply, not_allowed, task_or_reply, plan_by, planned}
+use Rattle.request_model.specs.Documents.{create_of, update_of, linkage_from}
+use Rattle.request_model.specs.Plans.{primary_data, change, by_path, links_operation, data_pointer, update_task, change_of, judged, is_fetch, is_list_target, none_or_err, fetch_of, change_without_query, task_of, or_reply, not_allowed, task_or_reply, plan_by, planned}
 use Rattle.request_tasks.specs.BuiltPlans.{is_built, task_so_far, task_or_reply_so_far, planned_so_far, ShowsOne, IsBuiltTask}
+use Rattle.request_model.specs.ReadingLaws.{bind-Ok, then-Ok, or_reply-Ok, run-Ok}
+use Rattle.request_tasks.proofs.EitherLemmas.{planned-either}
 use Rattle.request_tasks.proofs.NoQuery.{query_of-none}
-
--- ---- results that are given
-
-bind-Ok : {A B E : Type 0} (r : Result A E) (f : A → Result B E) (y : B) → ◌>>=◌ r f ≡ Ok y → (x : A) × (r ≡ Ok x) × (f x ≡ Ok y)
-bind-Ok (Ok x) f y e = (x, refl, e)
-bind-Ok (Err r) f y e = cc e
-
-then-Ok : {A B E : Type 0} (r : Result A E) (s : Result B E) (y : B) → ◌>>◌ r s ≡ Ok y → (x : A) × (r ≡ Ok x) × (s ≡ Ok y)
-then-Ok (Ok x) s y e = (x, refl, e)
-then-Ok (Err r) s y e = cc e
 
 -- what is behind a test that was passed
 passed : {B E : Type 0} (b : Bool) (r : E) (s : Result B E) (y : B) → ◌>>◌ (err_if (not b) r) s ≡ Ok y → (b ≡ true) × (s ≡ Ok y)
 passed true r s y e = (refl, e)
 passed false r s y e = cc e
 
-or_reply-Ok : {A : Type 0} (r : Result A Refusal) (x : A) → or_reply r ≡ Ok x → r ≡ Ok x
-or_reply-Ok (Ok y) x e = cc e
-or_reply-Ok (Err r) x e = cc e
-
-run-Ok : (r : Result Task Reply) (t : Task) → plan_by r ≡ Run t → r ≡ Ok t
-run-Ok (Ok x) t e = cc e
-run-Ok (Err reply) t e = cc e
-
 -- ---- a task so far is a task
 
-skip : {A B C D E : Type 0} (a : Result A E) (b : Result B E) (c : Result C E) (s : Result D E) (y : D) → ◌>>◌ a (◌>>◌ b (◌>>◌ c s)) ≡ Ok y → ◌>>◌ a (◌>>◌ b s) ≡ Ok y
-skip (Ok x) (Ok y) (Ok z) s w e = e
-skip (Ok x) (Ok y) (Err r) s w e = cc e
-skip (Ok x) (Err r) c s w e = cc e
-skip (Err r) b c s w e = cc e
-
-task-same : (schema : Schema) (m : Message) (t : Target) (query : List ℕ) (asked : Task) → task_so_far schema m t query ≡ Ok asked → task_of schema m t query ≡ Ok asked
-task-same schema m t query asked e = skip (judged (content m.fields (need_of (allow_of schema t) m.method)))
-    (err_if (not (acceptable m.fields)) (at_header code.NotAcceptable (codes "Accept")))
-    (err_if (not (is_built schema t m.method query)) (refusal code.NotBuilt)) _ asked e
-
--- behind the same steps, another end
-same_end : {A B E : Type 0} (r : Result A E) (f g : A → Result B E) (y : B) → ((x : A) → f x ≡ Ok y → g x ≡ Ok y) → ◌>>=◌ r f ≡ Ok y → ◌>>=◌ r g ≡ Ok y
-same_end (Ok x) f g y h e = h x e
-same_end (Err r) f g y h e = cc e
-
-then_end : {A B E : Type 0} (r : Result A E) (f g : Result B E) (y : B) → (f ≡ Ok y → g ≡ Ok y) → ◌>>◌ r f ≡ Ok y → ◌>>◌ r g ≡ Ok y
-then_end (Ok x) f g y h e = h e
-then_end (Err r) f g y h e = cc e
-
-reply_end : {A : Type 0} (r s : Result A Refusal) (y : A) → (r ≡ Ok y → s ≡ Ok y) → or_reply r ≡ Ok y → or_reply s ≡ Ok y
-reply_end r s y h e = let same : s ≡ Ok y = h (or_reply-Ok r y e) in rw same refl
-
-task_or_reply-same : (schema : Schema) (m : Message) (asked : Task) → task_or_reply_so_far schema m ≡ Ok asked → task_or_reply schema m ≡ Ok asked
-task_or_reply-same schema m asked e =
-    same_end (or_reply (ok_or (split_target m.target) (refusal code.BadTarget))) _ _ asked
-    (λ parts. same_end (or_reply (ok_or (target_of_path schema parts.0) (refusal code.NotFound))) _ _ asked
-    (λ t. then_end (err_if (not (allows (allow_of schema t) m.method)) (not_allowed (allow_of schema t))) _ _ asked
-    (reply_end (task_so_far schema m t parts.1) (task_of schema m t parts.1) asked (task-same schema m t parts.1 asked)))) e
-
 pub planned-same : (schema : Schema) (m : Message) (asked : Task) → planned_so_far schema m ≡ Run asked → planned schema m ≡ Run asked
-planned-same schema m asked e =
-    let same : task_or_reply schema m ≡ Ok asked = task_or_reply-same schema m asked (run-Ok (task_or_reply_so_far schema m) asked e) in
-    rw same refl
+planned-same schema m asked e = elim (planned-either schema m) [ inl whole ↦ sym whole ∙ e | inr told ↦ cc (sym told ∙ e) ]
 
 -- ---- a task so far is built
-
-and-true : (a b : Bool) → (a && b) ≡ true → (a ≡ true) × (b ≡ true)
-and-true true b e = (refl, e)
-and-true false b e = cc e
 
 not-true : (b : Bool) → not b ≡ true → b ≡ false
 not-true true e = cc e
@@ -107,20 +56,20 @@ none (x ∷ xs) e = absurd (grind (arith, e))
 
 record Built (schema : Schema) (t : Target) (method query : List ℕ) : Type 0 where
   no_query : query ≡ []
-  no_list : is_list t ≡ false
+  no_list : is_list_target t ≡ false
   no_page : is_fetch method ≡ true → is_page schema t ≡ false
 
 parts-built : (schema : Schema) (t : Target) (method query : List ℕ) → is_built schema t method query ≡ true → Built schema t method query
 parts-built schema t method query e =
-    let a = and-true (not (is_any query) && not (is_list t)) (not (is_fetch method && is_page schema t)) e in
-    let b = and-true (not (is_any query)) (not (is_list t)) a.0 in
+    let a = and_parts (not (is_any query) && not (is_list_target t)) (not (is_fetch method && is_page schema t)) e in
+    let b = and_parts (not (is_any query)) (not (is_list_target t)) a.0 in
     record {
       no_query = none query (not-true (is_any query) b.0);
-      no_list = not-true (is_list t) b.1;
+      no_list = not-true (is_list_target t) b.1;
       no_page = and-false (is_fetch method) (is_page schema t) (not-true (is_fetch method && is_page schema t) a.1);
     }
 
-one-shown : (schema : Schema) (t : Target) → is_list t ≡ false → is_page schema t ≡ false → ShowsOne schema t
+one-shown : (schema : Schema) (t : Target) → is_list_target t ≡ false → is_page schema t ≡ false → ShowsOne schema t
 one-shown schema (target.Collection kind) list page = cc page
 one-shown schema (target.Resource key) list page = tt
 one-shown schema (target.Related key rel) list page = page
@@ -142,7 +91,7 @@ updated e = cc e
 empty : reply_form.Empty ≡ reply_form.Results → ⊥
 empty e = cc e
 
-change-built : (schema : Schema) (method body : List ℕ) (t : Target) (asked : Task) → is_list t ≡ false → change_of schema method body t ≡ Ok asked → IsBuiltTask schema asked
+change-built : (schema : Schema) (method body : List ℕ) (t : Target) (asked : Task) → is_list_target t ≡ false → change_of schema method body t ≡ Ok asked → IsBuiltTask schema asked
 change-built schema method body (target.Collection kind) asked list e =
     let a = bind-Ok (primary_data body) _ asked e in
     let b = bind-Ok (create_of schema (Some kind) data_pointer a.0) _ asked a.2 in
@@ -159,7 +108,7 @@ change-built schema method body (target.Resource key) asked list e = by_delete (
 change-built schema method body (target.Related key rel) asked list e = cc e
 change-built schema method body (target.Linkage key rel) asked list e =
     let a = bind-Ok (primary_data body) _ asked e in
-    let b = bind-Ok (linkage schema key.kind rel data_pointer a.0) _ asked a.2 in
+    let b = bind-Ok (linkage_from schema key.kind rel data_pointer a.0) _ asked a.2 in
     let same : change reply_form.Empty (links_operation method (by_path key) rel b.0) ≡ asked = cc b.2 in
     subst (IsBuiltTask schema) same (refl, empty)
 change-built schema method body target.Operations asked list e = cc list

@@ -1,2 +1,3 @@
 pub mod BuiltLemmas
+mod EitherLemmas
 pub mod NoQuery

@@ -11,6 +11,8 @@ use Rattle.task_forms.specs.declared.tasks.ReplyForm.TheVariants.{Results}
 use Rattle.task_forms.specs.declared.tasks.Task.{Task}
 use Rattle.task_forms.specs.declared.tasks.Task.TheVariants.{Fetch, Change}
 use Rattle.task_forms.specs.declared.tasks.Plan.{Plan}
+use Rattle.task_forms.specs.declared.tasks.Plan.TheVariants.{Fixed}
+use Rattle.error_objects.specs.ErrorReply.{error_reply}
 use Rattle.error_objects.specs.declared.codes.Code.TheVariants as code
 use Rattle.error_objects.specs.declared.refusals.Refusal.{Refusal}
 use Rattle.error_objects.specs.Refusals.{refusal, at_header}
@@ -20,11 +22,15 @@ use Rattle.request_model.specs.Targets.{split_target, target_of_path, allow_of, 
 use Rattle.request_model.specs.Negotiation.{content, acceptable}
 use Rattle.task_forms.specs.Queries.{no_query}
 use Rattle.request_model.specs.Queries.{is_page}
-use Rattle.request_model.specs.Plans.{judged, is_fetch, is_list, fetch_of, change_without_query, or_reply, not_allowed, plan_by}
+use Rattle.request_model.specs.Plans.{judged, is_fetch, is_list_target, fetch_of, change_without_query, or_reply, not_allowed, plan_by}
+
+-- what a message is told whose form is not built
+abbrev pub not_built : Plan
+not_built = Fixed (error_reply (refusal code.NotBuilt))
 
 -- no query, no list of operations, and no fetch of a page
 abbrev pub is_built : Schema → Target → List ℕ → List ℕ → Bool
-is_built schema t method query = not (is_any query) && not (is_list t) && not (is_fetch method && is_page schema t)
+is_built schema t method query = not (is_any query) && not (is_list_target t) && not (is_fetch method && is_page schema t)
 
 -- negotiation, then whether the form is built, then the query, then the body
 abbrev pub task_so_far : Schema → Message → Target → List ℕ → Result Task Refusal

@@ -9,7 +9,7 @@ ghost use Rattle.task_forms.specs.declared.operations.Member.{Member};
 ghost use Rattle.task_forms.specs.declared.operations.Operation.TheVariants.{Remove};
 ghost use Rattle.task_forms.specs.declared.tasks.ReplyForm.TheVariants.{Empty};
 ghost use Rattle.request_model.specs.Documents.{bad_document, create_of, update_of};
-ghost use Rattle.request_model.specs.Plans.{body_value, by_path, change, change_of, change_without_query, data_pointer, is_list, links_operation, update_task};
+ghost use Rattle.request_model.specs.Plans.{body_value, by_path, change, change_of, change_without_query, data_pointer, is_list_target, links_operation, update_task};
 ghost use Rattle.request_model.specs.Words.{result_map};
 ghost use Rattle.resource_reader.specs.Reads.{IsReadVec};
 ghost use Rattle.ident_rules.specs.StepErrors.{Gives};
@@ -206,7 +206,7 @@ fn change_of(
     message: &Message,
     target: &Target,
 ) -> Result<Task, StepError<Refusal>>
-    requires { is_list target.now ≡ false }
+    requires { is_list_target target.now ≡ false }
     ensures { Gives result (change_of schema.now message.now.method message.now.body target.now) }
 {
     match target {
@@ -225,7 +225,7 @@ pub fn change_without_query(
     message: &Message,
     target: &Target,
 ) -> Result<Task, StepError<Refusal>>
-    requires { is_list target.now ≡ false }
+    requires { is_list_target target.now ≡ false }
     ensures { Gives result (change_without_query schema.now message.now.method message.now.body target.now []) }
 {
     change_of(alloc, schema, message, target)

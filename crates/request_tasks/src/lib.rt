@@ -9,5 +9,5 @@ mod planner;
 mod replies;
 mod tasks;
 
-pub use laws::built_plan_is_the_plan;
+pub use laws::plan_is_the_plan_or_not_built;
 pub use planner::{LentTasks, RequestTasks};

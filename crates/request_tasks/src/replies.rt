@@ -5,7 +5,7 @@ ghost use Rattle.error_objects.specs.Refusals.{at_header, refusal};
 ghost use Rattle.task_forms.specs.declared.tasks.Task.{Task};
 ghost use Rattle.request_model.specs.Documents.{bad_document};
 ghost use Rattle.request_model.specs.Plans.{not_allowed, or_reply};
-ghost use Rattle.ident_rules.specs.StepErrors.{IsStop, Stops};
+ghost use Rattle.ident_rules.specs.StepErrors.{IsStop, IsStopOf};
 
 use error_objects::{Blame, Code, Refusal, error_reply};
 use http_messages::{Allow, Reply};
@@ -84,7 +84,7 @@ pub fn not_allowed(alloc: Global, allow: Allow) -> StepError<Reply>
 
 /// A refusal as a reply.
 pub fn or_reply(alloc: Global, stop: &StepError<Refusal>) -> StepError<Reply>
-    ensures { (d : Result Task Refusal) → Stops stop.now d → Stops result (or_reply d) }
+    ensures { (d : Result Task Refusal) → IsStopOf stop.now d → IsStopOf result (or_reply d) }
 {
     match stop {
         StepError::Because(refusal) => error_stop(alloc, refusal),

@@ -2,7 +2,7 @@ ghost use Rattle.std.specs.Prelude.{◌≡◌, [], codes, false, if◌then◌els
 ghost use Rattle.error_objects.specs.declared.codes.Code.TheVariants as code;
 ghost use Rattle.error_objects.specs.Refusals.{at_header};
 ghost use Rattle.request_model.specs.Negotiation.{acceptable, content};
-ghost use Rattle.request_model.specs.Plans.{change_without_query, fetch_of, is_fetch, is_list, judged};
+ghost use Rattle.request_model.specs.Plans.{change_without_query, fetch_of, is_fetch, is_list_target, judged};
 ghost use Rattle.request_model.specs.Results.{err_if};
 ghost use Rattle.request_model.specs.Targets.{allow_of, need_of};
 ghost use Rattle.request_tasks.specs.BuiltPlans.{is_built, task_or_reply_so_far, task_so_far};
@@ -14,7 +14,7 @@ use crate::replies::{not_allowed, or_reply, refuse, refuse_header, reply_with};
 use error_objects::{Code, Refusal};
 use http_messages::{Field, Message, Reply};
 use ident_rules::StepError;
-use media_types::{Judged, accept_ok, content_ok};
+use media_types::{ContentVerdict, accept_ok, content_ok};
 use resource_schema::{Schema, Target};
 use route_table::{allow_of, allows, find_target, need_of};
 use std::alloc::Global;
@@ -22,13 +22,13 @@ use task_forms::Task;
 use uri_texts::split_target;
 
 /// The refusal of fields that describe the content wrongly (JSON:API 1.1, "Server Responsibilities").
-fn judged(alloc: Global, how: Judged) -> Result<(), StepError<Refusal>>
+fn judged(alloc: Global, how: ContentVerdict) -> Result<(), StepError<Refusal>>
     ensures { Gives result (judged how) }
 {
     match how {
-        Judged::Good => Ok(()),
-        Judged::BadType => Err(refuse_header(alloc, Code::UnsupportedMediaType, "Content-Type")),
-        Judged::BadEncoding => Err(refuse_header(
+        ContentVerdict::Good => Ok(()),
+        ContentVerdict::BadType => Err(refuse_header(alloc, Code::UnsupportedMediaType, "Content-Type")),
+        ContentVerdict::BadEncoding => Err(refuse_header(
             alloc,
             Code::UnsupportedMediaType,
             "Content-Encoding",
@@ -62,7 +62,7 @@ fn check_accept(alloc: Global, fields: &[Field]) -> Result<(), StepError<Refusal
 
 /// The request is a list of operations.
 fn is_list(target: &Target) -> bool
-    ensures { result ≡ is_list target.now }
+    ensures { result ≡ is_list_target target.now }
 {
     match target {
         Target::Operations => true,
@@ -74,7 +74,7 @@ fn is_list(target: &Target) -> bool
 fn is_built(schema: &Schema, target: &Target, method: &str, query: &str) -> bool
     ensures built { result ≡ is_built schema.now target.now method.now query.now }
     ensures empty { result ≡ true → query.now ≡ [] }
-    ensures no_list { result ≡ true → is_list target.now ≡ false }
+    ensures no_list { result ≡ true → is_list_target target.now ≡ false }
 {
     query.is_empty() && !is_list(target) && !(is_fetch(method) && is_page(schema, target))
 }
@@ -86,7 +86,7 @@ fn task_without_query(
     message: &Message,
     target: &Target,
 ) -> Result<Task, StepError<Refusal>>
-    requires { is_list target.now ≡ false }
+    requires { is_list_target target.now ≡ false }
     ensures { Gives result (if is_fetch message.now.method then fetch_of schema.now target.now [] else change_without_query schema.now message.now.method message.now.body target.now []) }
 {
     if is_fetch(message.method.as_str()) {

@@ -9,7 +9,7 @@ use Rattle.request_model.specs.Words.{all_ok}
 use Rattle.request_model.specs.Results.{◌>>◌, err_if}
 use Rattle.request_model.specs.Documents.{bad_document, indexed}
 
-abbrev pub many_of : Schema → ℕ → List ℕ → List Data → Result (List Member) Refusal
-many_of schema kind at ds = do
+abbrev pub items_linkage : Schema → ℕ → List ℕ → List Data → Result (List Member) Refusal
+items_linkage schema kind at ds = do
   err_if (nat_le (2 ^ 32) (length ds)) (bad_document at)
   all_ok (map (indexed schema kind at) (enumerate_from 0 ds))

@@ -3,8 +3,8 @@ use Rattle.std.specs.Prelude.{ℕ, Bool, not, List, codes, filter}
 use Rattle.serde_json.specs.Data.{Data}
 use Rattle.request_model.specs.Words.{begins}
 
-abbrev pub is_field_name : List ℕ → Bool
-is_field_name name = not (begins (codes "@") name)
+abbrev pub is_no_at_member : List ℕ → Bool
+is_no_at_member name = not (begins (codes "@") name)
 
-abbrev pub fields_in : List (List ℕ × Data) → List (List ℕ × Data)
-fields_in ms = filter (λ m. is_field_name m.0) ms
+abbrev pub fields_among : List (List ℕ × Data) → List (List ℕ × Data)
+fields_among ms = filter (λ m. is_no_at_member m.0) ms

@@ -4,7 +4,7 @@ ghost use Rattle.request_model.specs.Words.{all_ok};
 ghost use Rattle.request_model.specs.Documents.{given_link, given_links};
 ghost use Rattle.document_parts.specs.Walks.{members_in};
 ghost use Rattle.ident_rules.specs.StepErrors.{Gives};
-ghost use Rattle.resource_reader.specs.Fields.{fields_in};
+ghost use Rattle.resource_reader.specs.Fields.{fields_among};
 
 use crate::linkages::read_linkage;
 use crate::parts::object_at;
@@ -50,7 +50,7 @@ fn read_relationships(
     group: &str,
     members: &Map<String, Value>,
 ) -> Result<List<(u32, List<Member>)>, StepError<Refusal>>
-    ensures { Gives result (all_ok (map (given_link schema.now kind group.now) (fields_in (members_in members.now)))) }
+    ensures { Gives result (all_ok (map (given_link schema.now kind group.now) (fields_among (members_in members.now)))) }
 {
     let mut links = Vec::new(alloc);
     for (name, value) in members {

@@ -1,7 +1,7 @@
 ghost use Rattle.std.specs.Prelude.{◌≡◌, IfOk, option_map, true, ℕ};
 ghost use Rattle.std.specs.Str.{is_utf8};
 ghost use Rattle.serde_json.specs.View.{view};
-ghost use Rattle.request_model.specs.Documents.{named_in, identifier};
+ghost use Rattle.request_model.specs.Documents.{named_in, identifier_from};
 ghost use Rattle.ident_rules.specs.StepErrors.{Gives};
 ghost use Rattle.resource_reader.specs.Names.{named_by_name};
 
@@ -53,7 +53,7 @@ pub fn read_identifier(
     at: &str,
     value: &Value,
 ) -> Result<Named, StepError<Refusal>>
-    ensures { Gives result (identifier schema.now kind at.now (view value.now)) }
+    ensures { Gives result (identifier_from schema.now kind at.now (view value.now)) }
 {
     let Some(word) = text_at(value, "type") else {
         return Err(bad_document(alloc, at));

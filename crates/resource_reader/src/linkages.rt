@@ -2,9 +2,9 @@ ghost use Rattle.std.specs.Prelude.{◌≡◌, ◌<◌, ◌^◌, length, map, op
 ghost use Rattle.std.specs.List.{enumerate_from};
 ghost use Rattle.serde_json.specs.View.{view};
 ghost use Rattle.request_model.specs.Words.{all_ok};
-ghost use Rattle.request_model.specs.Documents.{one_linkage, many_linkage, indexed, linkage};
+ghost use Rattle.request_model.specs.Documents.{one_linkage, many_linkage, indexed, linkage_from};
 ghost use Rattle.ident_rules.specs.StepErrors.{Gives};
-ghost use Rattle.resource_reader.specs.Arrays.{many_of};
+ghost use Rattle.resource_reader.specs.Arrays.{items_linkage};
 
 use crate::identifiers::read_identifier;
 use crate::refusals::bad_document;
@@ -85,7 +85,7 @@ fn read_array(
     at: &str,
     values: &[Value],
 ) -> Result<List<Member>, StepError<Refusal>>
-    ensures { Gives result (many_of schema.now kind at.now (map view values.now)) }
+    ensures { Gives result (items_linkage schema.now kind at.now (map view values.now)) }
 {
     if values.len() > 4_294_967_295 {
         return Err(bad_document(alloc, at));
@@ -118,7 +118,7 @@ pub fn read_linkage(
     at: &str,
     value: &Value,
 ) -> Result<List<Member>, StepError<Refusal>>
-    ensures { Gives result (linkage schema.now kind rel at.now (view value.now)) }
+    ensures { Gives result (linkage_from schema.now kind rel at.now (view value.now)) }
 {
     let target = schema.target_of(kind, rel);
     if schema.is_many(kind, rel) {

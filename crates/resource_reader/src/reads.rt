@@ -66,7 +66,7 @@ pub fn read_members(
     kind: u32,
     rel: u32,
 ) -> Read<Vec<Member>>
-    ensures { IsReadVec result (documents.linkage schema.now kind rel at.now (view value.now)) }
+    ensures { IsReadVec result (documents.linkage_from schema.now kind rel at.now (view value.now)) }
 {
     match read_linkage(alloc, schema, kind, rel, at, value) {
         Ok(members) => Read::Good(members.into_vec()),

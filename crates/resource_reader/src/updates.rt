@@ -2,7 +2,7 @@ ghost use Rattle.std.specs.Prelude.{◌≡◌, ℕ, None, option_map};
 ghost use Rattle.serde_json.specs.View.{view};
 ghost use Rattle.task_forms.specs.Fit.{kind_of};
 ghost use Rattle.request_model.specs.Words.{result_map};
-ghost use Rattle.request_model.specs.Documents.{own_name, is_plain, lid_in, name_member, same_named, target_of_update, who_of, update_of};
+ghost use Rattle.request_model.specs.Documents.{own_name, is_by_path, lid_in, name_member, same_named, target_of_update, who_of, update_of};
 ghost use Rattle.document_parts.specs.Pointers.{member_pointer};
 ghost use Rattle.error_objects.specs.Refusals.{at_pointer};
 ghost use Rattle.error_objects.specs.declared.codes.Code.TheVariants.{IdMismatch};
@@ -35,7 +35,7 @@ fn endpoint_kind(endpoint: &Option<Who>) -> Option<u32>
 
 /// Whether the path of the request named the resource.
 fn is_plain(place: Where) -> bool
-    ensures { result ≡ is_plain place }
+    ensures { result ≡ is_by_path place }
 {
     place == Where::Plain
 }

@@ -8,7 +8,7 @@ ghost use Rattle.request_model.specs.Words.{all_ok, all_some};
 ghost use Rattle.request_model.specs.Documents.{given_value, given_values, value_or_default, all_values};
 ghost use Rattle.document_parts.specs.Walks.{members_in};
 ghost use Rattle.ident_rules.specs.StepErrors.{Gives};
-ghost use Rattle.resource_reader.specs.Fields.{is_field_name, fields_in};
+ghost use Rattle.resource_reader.specs.Fields.{is_no_at_member, fields_among};
 
 use crate::parts::object_at;
 use crate::refusals::refuse_in;
@@ -22,7 +22,7 @@ use std::alloc::Global;
 
 /// Whether a member is a field: its name does not begin with `@` (JSON:API 1.1, "@-Members").
 pub fn is_field_name(name: &str) -> bool
-    ensures { result ≡ is_field_name name.now }
+    ensures { result ≡ is_no_at_member name.now }
 {
     !name.starts_with('@')
 }
@@ -65,7 +65,7 @@ fn read_attributes(
     group: &str,
     members: &Map<String, Value>,
 ) -> Result<List<(u32, AttrValue)>, StepError<Refusal>>
-    ensures { Gives result (all_ok (map (given_value schema.now kind group.now) (fields_in (members_in members.now)))) }
+    ensures { Gives result (all_ok (map (given_value schema.now kind group.now) (fields_among (members_in members.now)))) }
 {
     let mut values = Vec::new(alloc);
     for (name, value) in members {

@@ -64,8 +64,8 @@ kind_parts kinds k rules =
     }
 
 -- each type keeps the rule of types
-pub kind_at : (schema : List Kind) (kind : ℕ) (k : Kind) → IsTrue (is_schema schema) → slice_get schema kind ≡ Some k → KindParts (length schema) k
-kind_at schema kind k rules e =
+pub kind_at-parts : (schema : List Kind) (kind : ℕ) (k : Kind) → IsTrue (is_schema schema) → slice_get schema kind ≡ Some k → KindParts (length schema) k
+kind_at-parts schema kind k rules e =
     kind_parts (length schema) k (passes_at (is_kind (length schema)) schema kind k (schema_parts schema rules).kinds e)
 
 -- few attributes of a type, by its number
@@ -73,14 +73,14 @@ pub length-attributes_of-le : (schema : List Kind) (kind : ℕ) → IsTrue (is_s
 length-attributes_of-le schema kind rules = by_look (slice_get schema kind) refl where
   by_look : (o : _) → slice_get schema kind ≡ o → length (option_map_or (λ (k : Kind). k.attributes) o []) ≤ ATTRIBUTE_LIMIT
   by_look None e = omega arith
-  by_look (Some k) e = (kind_at schema kind k rules e).few_attributes
+  by_look (Some k) e = (kind_at-parts schema kind k rules e).few_attributes
 
 -- few relationships of a type, by its number
 pub length-relationships_of-le : (schema : List Kind) (kind : ℕ) → IsTrue (is_schema schema) → length (relationships_of schema kind) ≤ RELATIONSHIP_LIMIT
 length-relationships_of-le schema kind rules = by_look (slice_get schema kind) refl where
   by_look : (o : _) → slice_get schema kind ≡ o → length (option_map_or (λ (k : Kind). k.relationships) o []) ≤ RELATIONSHIP_LIMIT
   by_look None e = omega arith
-  by_look (Some k) e = (kind_at schema kind k rules e).few_relationships
+  by_look (Some k) e = (kind_at-parts schema kind k rules e).few_relationships
 
 -- a relationship leads to a type of the schema
 pub target_of-lt : (schema : List Kind) (kind rel : ℕ) → IsTrue (is_schema schema) → target_of schema kind rel < length schema
@@ -88,7 +88,7 @@ target_of-lt schema kind rel rules = by_look (slice_get schema kind) refl where
   by_rel : (k : Kind) (o : _) → slice_get schema kind ≡ Some k → slice_get k.relationships rel ≡ o → option_map_or (λ (r : Relationship). r.target) o 0 < length schema
   by_rel k None e f = (schema_parts schema rules).some
   by_rel k (Some r) e f =
-      let test = passes_at (is_relationship (length schema) (map (λ a. a.name) k.attributes)) k.relationships rel r (kind_at schema kind k rules e).relationships f in
+      let test = passes_at (is_relationship (length schema) (map (λ a. a.name) k.attributes)) k.relationships rel r (kind_at-parts schema kind k rules e).relationships f in
       ltb-true _ _ (and_parts _ _ test).1
 
   by_look : (o : _) → slice_get schema kind ≡ o → option_map_or (λ (r : Relationship). r.target) (slice_get (option_map_or (λ (k : Kind). k.relationships) o []) rel) 0 < length schema

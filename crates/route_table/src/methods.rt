@@ -1,6 +1,6 @@
 ghost use Rattle.std.specs.Prelude.{◌≡◌};
 ghost use Rattle.resource_schema.specs.SchemaRules.{is_one_of};
-ghost use Rattle.request_model.specs.Targets.{allow_of, allows, body_methods, body_of, methods, need_of};
+ghost use Rattle.request_model.specs.Targets.{allow_of, allows, body_methods, body_of, allowed_methods, need_of};
 
 use http_messages::Allow;
 use request_model::Need;

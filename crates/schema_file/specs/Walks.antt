@@ -29,5 +29,5 @@ abbrev pub many_at : List ℕ → Data → Result Bool SchemaFault
 many_at at d = ok_or (option_and_then many_of (text_at (codes "kind") d)) (fault (at // codes "kind") why.BadKind)
 
 -- the number of the type that a relationship leads to
-abbrev pub target_at : List (List ℕ) → List ℕ → Data → Result ℕ SchemaFault
-target_at kinds at d = ok_or (option_and_then (λ t. position (bytes_eq t) kinds) (text_at (codes "target") d)) (fault (at // codes "target") why.BadTarget)
+abbrev pub target_in : List (List ℕ) → List ℕ → Data → Result ℕ SchemaFault
+target_in kinds at d = ok_or (option_and_then (λ t. position (bytes_eq t) kinds) (text_at (codes "target") d)) (fault (at // codes "target") why.BadTarget)

@@ -5,7 +5,7 @@ ghost use Rattle.serde_json.specs.View.{view};
 ghost use Rattle.resource_schema.specs.SchemaRules.{is_one_of};
 ghost use Rattle.request_model.specs.SchemaFile.{form_of, many_of, attribute_from, relationship_from};
 ghost use Rattle.schema_file.specs.Finds.{Finds};
-ghost use Rattle.schema_file.specs.Walks.{form_at, many_at, target_at};
+ghost use Rattle.schema_file.specs.Walks.{form_at, many_at, target_in};
 ghost use Rattle.resource_schema.specs.declared.kinds.TheConstants.{KIND_LIMIT};
 
 use crate::SchemaEnd;
@@ -73,7 +73,7 @@ fn place_of(kinds: &[Text], name: &str) -> Option<usize>
 /// The number of the type that a relationship leads to.
 fn target_at(alloc: Global, kinds: &[Text], at: &str, value: &Value) -> Result<u32, SchemaEnd>
     requires few { length kinds.now ≤ KIND_LIMIT }
-    ensures { Finds result (target_at kinds.now at.now (view value.now)) }
+    ensures { Finds result (target_in kinds.now at.now (view value.now)) }
 {
     if let Some(name) = text_at(value, "target") {
         if let Some(place) = place_of(kinds, name) {

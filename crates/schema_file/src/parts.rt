@@ -5,7 +5,7 @@ ghost use Rattle.document_parts.specs.Pointers.{member_pointer};
 ghost use Rattle.json_forms.specs.Json.{members_list};
 ghost use Rattle.json_forms.specs.Order.{AreAscending};
 ghost use Rattle.request_model.specs.Words.{result_map};
-ghost use Rattle.request_model.specs.SchemaFile.{fault as fault_at, object_at, fields_at, flag_at, default_at, NamesRise};
+ghost use Rattle.request_model.specs.SchemaFile.{fault as fault_at, file_object, file_fields, flag_at, default_at, NamesRise};
 ghost use Rattle.schema_file.specs.Finds.{Finds, IsFault};
 ghost use Rattle.document_parts.specs.Walks.{members_in};
 ghost use Rattle.schema_file.specs.Walks.{fields_in};
@@ -25,7 +25,7 @@ pub fn object_at<'v>(
     place: &str,
     value: Option<&'v Value>,
 ) -> Result<&'v Map<String, Value>, SchemaEnd>
-    ensures { Finds (result_map (λ m. members_in m.now) result) (object_at place.now (option_map (λ v. view v.now) value.entry)) }
+    ensures { Finds (result_map (λ m. members_in m.now) result) (file_object place.now (option_map (λ v. view v.now) value.entry)) }
 {
     match value {
         Some(Value::Object(members)) => Ok(members),
@@ -54,7 +54,7 @@ pub fn fields_at<'v>(
     limit: usize,
     value: Option<&'v Value>,
 ) -> Result<Option<&'v Map<String, Value>>, SchemaEnd>
-    ensures { Finds (result_map (λ o. fields_in (option_map (λ m. m.now) o)) result) (fields_at place.now limit (option_map (λ v. view v.now) value.entry)) }
+    ensures { Finds (result_map (λ o. fields_in (option_map (λ m. m.now) o)) result) (file_fields place.now limit (option_map (λ v. view v.now) value.entry)) }
 {
     if value.is_none() {
         return Ok(None);

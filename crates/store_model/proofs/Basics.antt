@@ -1,4 +1,5 @@
 -- Tests, options and lists.
+use Rattle.std.proofs.lemmas.Bool.{or_cases}
 use Rattle.std.proofs.Common.{◌≡◌, ℕ, List, [], ◌∷◌, ◌++◌, Bool, true, false, refl, sym, ap, subst, ◌∙◌, Some, None, inl, inr, zero, suc}
 use Rattle.std.specs.Prelude.{T, ◌||◌, ◌&&◌, ◌⊎◌, not, cond, map, slice_get, slice_set, get_or}
 use Rattle.std.specs.Option.{option_map_or}
@@ -12,22 +13,6 @@ use Rattle.store_model.specs.LinkLaws.{T_and, below_in}
 use Rattle.world_cells.specs.Lists.{IsIn}
 
 -- ---- tests
-
-pub or_cases : (a b : Bool) → (a || b) ≡ true → (a ≡ true) ⊎ (b ≡ true)
-or_cases true b e = inl refl
-or_cases false b e = inr e
-
-pub or_false : (a b : Bool) → (a || b) ≡ false → (a ≡ false) × (b ≡ false)
-or_false true b e = cc
-or_false false b e = (refl, e)
-
-pub and_true : (a b : Bool) → a ≡ true → b ≡ true → (a && b) ≡ true
-and_true true b e h = h
-and_true false b e h = cc
-
-pub and_parts : (a b : Bool) → (a && b) ≡ true → (a ≡ true) × (b ≡ true)
-and_parts true b e = (refl, e)
-and_parts false b e = cc
 
 pub not_is_false : (b : Bool) → not b ≡ false → b ≡ true
 not_is_false true e = refl

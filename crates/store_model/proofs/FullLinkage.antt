@@ -27,7 +27,7 @@ use Rattle.store_model.specs.Included.{HasLink, IsReached, IsReachedFrom, includ
 use Rattle.serde_json.specs.Data.{Data, null}
 use Rattle.store_model.specs.Resource.{Fields, object_of, resource, collection_path, related_path}
 use Rattle.store_model.specs.Document.{meta_member, resources, page_links, included_member, page_document, row_document, linked_document, related_document, relationship_name, target_document, document, linked_rows, primary_rows, included_rows}
-use Rattle.store_model.specs.Laws.{Pairwise, AreApart, IsBefore, HasLesserKey, IsChain, IsChained, IsFullyLinked, ShowsResources, ShowsRows, included_part}
+use Rattle.store_model.specs.Laws.{Pairwise, AreApart, StandsBefore, HasLesserKey, IsChain, IsChained, IsFullyLinked, ShowsResources, ShowsRows, included_part}
 use Rattle.store_model.proofs.Basics.{false_or_true, one_passes, in_left, in_right, in_append, in_map, from_map, all_in, in_all}
 use Rattle.store_model.proofs.Paging.{page_exact}
 use Rattle.store_model.proofs.Reaching.{included_exactly, itself}
@@ -59,10 +59,10 @@ less_differs a b less e =
     let same : is_lt (key_cmp a.key a.key) ≡ true = subst (λ (k : Key). is_lt (key_cmp a.key k) ≡ true) (sym e) less in
     cc (sym tied ∙ same)
 
-before_differs : (sort : List SortKey) (a b : Row) → IsBefore sort a b → a ≢ b
+before_differs : (sort : List SortKey) (a b : Row) → StandsBefore sort a b → a ≢ b
 before_differs sort a b less e =
     let tied : is_lt (place_cmp sort (place_of sort a) (place_of sort a)) ≡ false = ap is_lt (tied_itself (place_cmp_total sort) (place_of sort a)) in
-    let same : is_lt (place_cmp sort (place_of sort a) (place_of sort a)) ≡ true = subst (λ (r : Row). IsBefore sort a r) (sym e) less in
+    let same : is_lt (place_cmp sort (place_of sort a) (place_of sort a)) ≡ true = subst (λ (r : Row). StandsBefore sort a r) (sym e) less in
     cc (sym tied ∙ same)
 
 -- at most as many rows as keys
@@ -92,7 +92,7 @@ module _ (schema : Schema) (w : World) (valid : IsValid schema w) where
   page_fine : (query : Query) (rows : List Row) → AreApart rows → ((row : Row) → IsIn rows row → row_at w row.key ≡ Some row) → AreFine ((page_of query.sort query.page rows).rows)
   page_fine query rows apart of_world =
       let page = page_exact query.sort rows apart query.page in (
-        pairwise_weaker (IsBefore query.sort) (λ a b. a.key ≢ b.key) ((page_of query.sort query.page rows).rows) (λ a b p q less e.
+        pairwise_weaker (StandsBefore query.sort) (λ a b. a.key ≢ b.key) ((page_of query.sort query.page rows).rows) (λ a b p q less e.
             before_differs query.sort a b less (one_row schema w valid a b (of_world a (page.asked a p).0) (of_world b (page.asked b q).0) e)) page.in_order,
         λ row among. of_world row (page.asked row among).0,
       )

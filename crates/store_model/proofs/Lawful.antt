@@ -1,4 +1,5 @@
 -- The store's tasks keep what every subject keeps: among it, that a fit task keeps a valid world valid.
+use Rattle.std.proofs.lemmas.Bool.{and_from}
 use Rattle.std.proofs.Common.{◌≡◌, ℕ, ◌+◌, ◌≤◌, List, [], ◌∷◌, Bool, true, false, refl, sym, ap, subst, ◌∙◌, Some, None, Option, arith}
 use Rattle.std.specs.Prelude.{⊤, ◌&&◌, not, cond, length, is_some, Result, Ok, Err}
 use Rattle.std.specs.Option.{option_map_or, option_and_then}
@@ -31,7 +32,6 @@ use Rattle.store_model.specs.StoreMeaning.{meaning_of}
 use Rattle.store_model.proofs.Links.{first_none, when_none}
 use Rattle.store_model.proofs.Keeps.{create_keeps, update_keeps}
 use Rattle.store_model.proofs.LinkChanges.{set_keeps, add_keeps, drop_keeps}
-use Rattle.store_model.proofs.Basics.{and_true}
 use Rattle.store_model.specs.LinkLaws.{link_somewhere, find_in, passes}
 use Rattle.store_model.specs.CellLaws.{row-without_row}
 
@@ -43,7 +43,7 @@ module _ (schema : Schema) (w : World) (key : Key) where
   referenced k row rel is apart leads =
       let found = find_in k w.rows row is in
       passes (λ e. not (same_key key e.0) && list_any (λ rel. links_to schema e.1 rel key) (range_with_len 0 (length e.1.links))) w.rows (found.0, row) found.1
-      (and_true (not (same_key key found.0)) (list_any (λ rel. links_to schema row rel key) (range_with_len 0 (length row.links))) (subst (λ q. not (same_key key q) ≡ true) found.2 (ap not apart)) (link_somewhere schema row rel key leads))
+      (and_from (not (same_key key found.0)) (list_any (λ rel. links_to schema row rel key) (range_with_len 0 (length row.links))) (subst (λ q. not (same_key key q) ≡ true) found.2 (ap not apart)) (link_somewhere schema row rel key leads))
 
   pub without_keeps : IsValid schema w → is_referenced schema w key ≡ false → IsValid schema (without_row w key)
   without_keeps valid free = record {

@@ -1,4 +1,5 @@
 -- Links that an operation writes are links of their relationships, to rows that are there.
+use Rattle.std.proofs.lemmas.Bool.{or_cases, or_parts}
 use Rattle.std.proofs.Common.{◌≡◌, ℕ, ◌≤◌, List, [], ◌∷◌, ◌++◌, Bool, true, false, refl, sym, ap, subst, ◌∙◌, Some, None, Option, arith, inl, inr}
 use Rattle.std.specs.Prelude.{IsTrue, cond, not, if◌then◌else◌, nat_lt, length, map, slice_get, slice_set, get_or, option_map, IfSome}
 use Rattle.std.specs.Option.{option_map_or}
@@ -25,10 +26,10 @@ use Rattle.store_model.specs.Valid.{IsLinkOf}
 use Rattle.world_cells.specs.World.{ids_of, no_link, link_at, links_to}
 use Rattle.resource_schema.specs.Kinds.{relationships_of, target_of}
 use Rattle.error_objects.specs.Refusals.{at_pointer}
-use Rattle.store_model.specs.Change.{Lids, lid_cmp, key_of, first_of, when, refuse_named, refuse_member, refuse_linkage, refuse_links, linkage_pointer, member_pointer, name_pointer, append_new, member_ids, link_of, set_links, empty_links}
+use Rattle.store_model.specs.Change.{Lids, lid_cmp, key_of, first_of, when, refuse_named, refuse_member, refuse_linkage, refuse_links, linkage_pointer, pointer_of_member, name_pointer, append_new, member_ids, link_of, set_links, empty_links}
 use Rattle.store_model.specs.Valid.{same_id}
 use Rattle.task_forms.specs.Fit.{kind_of, FitsLinkage, FitsCount}
-use Rattle.store_model.proofs.Basics.{or_cases, or_false, not_is_false, same_Some, all_zip_set, all_zip_get, all_zip_past, all_more}
+use Rattle.store_model.proofs.Basics.{not_is_false, same_Some, all_zip_set, all_zip_get, all_zip_past, all_more}
 
 -- ---- lists
 
@@ -51,7 +52,7 @@ distinct_none = tt
 distinct_more : (xs : List (List ℕ)) (x : List ℕ) → IsDistinct same_id xs → list_any (same_id x) xs ≡ false → IsDistinct same_id (xs ++ x ∷ [])
 unfolding IsDistinct
 distinct_more [] x h e = (tt, tt)
-distinct_more (y ∷ xs) x h e = (all_more (λ z. same_id y z ≡ false) xs x h.0 (same_id_back x y ((or_false _ _ e).0)), distinct_more xs x h.1 ((or_false _ _ e).1))
+distinct_more (y ∷ xs) x h e = (all_more (λ z. same_id y z ≡ false) xs x h.0 (same_id_back x y ((or_parts _ _ e).0)), distinct_more xs x h.1 ((or_parts _ _ e).1))
 
 pub distinct_append : (xs ids : List (List ℕ)) → IsDistinct same_id xs → IsDistinct same_id (append_new xs ids)
 distinct_append xs [] h = h
@@ -131,11 +132,11 @@ members_there : (there : Key → Bool) (lids : Lids) (pointer : List ℕ) (targe
 members_there there lids pointer target [] e kinds = tt
 members_there there lids pointer target (m ∷ members) e kinds =
     let parts = first_none (refuse_member there lids pointer m) (map (refuse_member there lids pointer) members) e in
-    elim (key_of lids m.named) as (λ o. key_of lids m.named ≡ o → refuse_named there (member_pointer pointer m ++ name_pointer m.named) o ≡ None → AreThere there target (cons_option (option_map (λ key. key.id) o) (member_ids lids members))) [
+    elim (key_of lids m.named) as (λ o. key_of lids m.named ≡ o → refuse_named there (pointer_of_member pointer m ++ name_pointer m.named) o ≡ None → AreThere there target (cons_option (option_map (λ key. key.id) o) (member_ids lids members))) [
       | None ↦ λ is e. cc
       | Some key ↦ λ is e.
           let kind : key.kind ≡ target = key_kind lids m.named key is ∙ kinds.0 in
-          (subst (λ n. there (record { kind = n; id = key.id }) ≡ true) kind (not_is_false (there key) (when_none (not (there key)) (at_pointer code.RelatedNotFound (member_pointer pointer m ++ name_pointer m.named)) e)), members_there there lids pointer target members parts.1 kinds.1)
+          (subst (λ n. there (record { kind = n; id = key.id }) ≡ true) kind (not_is_false (there key) (when_none (not (there key)) (at_pointer code.RelatedNotFound (pointer_of_member pointer m ++ name_pointer m.named)) e)), members_there there lids pointer target members parts.1 kinds.1)
     ] refl parts.0
 
 -- the ids of a linkage that was not refused, after those that were there

@@ -18,8 +18,8 @@ use Rattle.world_cells.specs.declared.rows.Row.{Row}
 use Rattle.world_cells.specs.Lists.{IsIn}
 use Rattle.task_forms.specs.declared.queries.Page.{Page}
 use Rattle.task_forms.specs.declared.queries.SortKey.{SortKey}
-use Rattle.store_model.specs.Pages.{values_cmp, place_cmp, place_cmp_total, place_of, by_place, last_items, first_item, last_item, is_behind, is_ahead, asked_for, ends_at_cursor, is_range, cut_to, slice_of, any_before, any_after, is_truncated, page_of, sorted}
-use Rattle.store_model.specs.Laws.{AreApart, IsBefore, IsBetween, StandsOutside, HasNoRoom, IsCutShort, HasEarlier, HasLater, IsPage, AreSorted}
+use Rattle.store_model.specs.Pages.{values_cmp, place_cmp, place_cmp_total, place_of, by_place, last_items, first_item, last_item, is_behind_cursor, is_ahead_of_cursor, asked_for, ends_at_cursor, is_range, cut_to, slice_of, any_before, any_after, is_truncated, page_of, sorted}
+use Rattle.store_model.specs.Laws.{AreApart, StandsBefore, IsAskedFor, StandsOutside, HasNoRoom, IsCutShort, HasEarlier, HasLater, IsPage, AreSorted}
 use Rattle.store_model.proofs.Basics.{same_Some, one_passes, in_left, in_right, in_append, in_map, from_map, in_filter, from_filter, all_in, in_all, pairwise_values, sorted_split}
 use Rattle.store_model.specs.LinkLaws.{passes}
 
@@ -135,8 +135,8 @@ module _ (sort : List SortKey) where
   record IsSlice (page : Page) (all items : List (Place × Row)) : Type 0 where
     in_order : T (is_sorted (place_cmp sort) items)
     short : length items ≤ page.size
-    asked : (e : Place × Row) → IsIn items e → IsIn all e × IsBetween sort page.after page.before e.0
-    whole : (e : Place × Row) → IsIn all e → IsBetween sort page.after page.before e.0 → IsIn items e ⊎ ((length items ≡ page.size) × IsOutside (ends_at_cursor page) e.0 items)
+    asked : (e : Place × Row) → IsIn items e → IsIn all e × IsAskedFor sort page.after page.before e.0
+    whole : (e : Place × Row) → IsIn all e → IsAskedFor sort page.after page.before e.0 → IsIn items e ⊎ ((length items ≡ page.size) × IsOutside (ends_at_cursor page) e.0 items)
 
   some_there : {A : Type 0} (xs : List A) (x : A) → IsIn xs x → 1 ≤ length xs
   some_there [] x among = elim among [ ]
@@ -199,19 +199,19 @@ module _ (sort : List SortKey) where
 
   -- ---- the items that are asked for
 
-  behind_if : (o : Option Place) (p : Place) → is_behind sort o p ≡ true → IfSome o (λ cursor. IsTrue (is_lt (place_cmp sort cursor p)))
+  behind_if : (o : Option Place) (p : Place) → is_behind_cursor sort o p ≡ true → IfSome o (λ cursor. IsTrue (is_lt (place_cmp sort cursor p)))
   behind_if None p e = tt
   behind_if (Some cursor) p e = e
 
-  behind_from : (o : Option Place) (p : Place) → IfSome o (λ cursor. IsTrue (is_lt (place_cmp sort cursor p))) → is_behind sort o p ≡ true
+  behind_from : (o : Option Place) (p : Place) → IfSome o (λ cursor. IsTrue (is_lt (place_cmp sort cursor p))) → is_behind_cursor sort o p ≡ true
   behind_from None p e = refl
   behind_from (Some cursor) p e = e
 
-  ahead_if : (o : Option Place) (p : Place) → is_ahead sort o p ≡ true → IfSome o (λ cursor. IsTrue (is_lt (place_cmp sort p cursor)))
+  ahead_if : (o : Option Place) (p : Place) → is_ahead_of_cursor sort o p ≡ true → IfSome o (λ cursor. IsTrue (is_lt (place_cmp sort p cursor)))
   ahead_if None p e = tt
   ahead_if (Some cursor) p e = e
 
-  ahead_from : (o : Option Place) (p : Place) → IfSome o (λ cursor. IsTrue (is_lt (place_cmp sort p cursor))) → is_ahead sort o p ≡ true
+  ahead_from : (o : Option Place) (p : Place) → IfSome o (λ cursor. IsTrue (is_lt (place_cmp sort p cursor))) → is_ahead_of_cursor sort o p ≡ true
   ahead_from None p e = refl
   ahead_from (Some cursor) p e = e
 
@@ -219,19 +219,19 @@ module _ (sort : List SortKey) where
     abbrev asked : List (Place × Row)
     asked = asked_for sort page all
 
-    asked_is : (e : Place × Row) → IsIn asked e → IsIn all e × IsBetween sort page.after page.before e.0
+    asked_is : (e : Place × Row) → IsIn asked e → IsIn all e × IsAskedFor sort page.after page.before e.0
     asked_is e among =
-        let found = from_filter (λ (e : Place × Row). is_behind sort page.after e.0 && is_ahead sort page.before e.0) all e among in
-        let parts = and_parts (is_behind sort page.after e.0) (is_ahead sort page.before e.0) found.1 in
+        let found = from_filter (λ (e : Place × Row). is_behind_cursor sort page.after e.0 && is_ahead_of_cursor sort page.before e.0) all e among in
+        let parts = and_parts (is_behind_cursor sort page.after e.0) (is_ahead_of_cursor sort page.before e.0) found.1 in
         (found.0, (behind_if page.after e.0 parts.0, ahead_if page.before e.0 parts.1))
 
-    is_asked : (e : Place × Row) → IsIn all e → IsBetween sort page.after page.before e.0 → IsIn asked e
+    is_asked : (e : Place × Row) → IsIn all e → IsAskedFor sort page.after page.before e.0 → IsIn asked e
     is_asked e among between =
-        in_filter (λ (e : Place × Row). is_behind sort page.after e.0 && is_ahead sort page.before e.0) all e among
-        (and_from (is_behind sort page.after e.0) (is_ahead sort page.before e.0) (behind_from page.after e.0 between.0) (ahead_from page.before e.0 between.1))
+        in_filter (λ (e : Place × Row). is_behind_cursor sort page.after e.0 && is_ahead_of_cursor sort page.before e.0) all e among
+        (and_from (is_behind_cursor sort page.after e.0) (is_ahead_of_cursor sort page.before e.0) (behind_from page.after e.0 between.0) (ahead_from page.before e.0 between.1))
 
     asked_sorted : T (is_sorted (place_cmp sort) all) → T (is_sorted (place_cmp sort) asked)
-    asked_sorted h = is_sorted-where_key (place_cmp sort) (λ p. is_behind sort page.after p && is_ahead sort page.before p) all h
+    asked_sorted h = is_sorted-where_key (place_cmp sort) (λ p. is_behind_cursor sort page.after p && is_ahead_of_cursor sort page.before p) all h
 
   -- ---- cutting them
 
@@ -301,23 +301,23 @@ module _ (sort : List SortKey) where
     placed e among = (from_place rows e apart among).0
 
     -- some entry stands before, or behind, an entry: so does some row its row
-    earlier_row : (e : Place × Row) → IsIn everyone e → list_any (λ (other : Place × Row). is_lt (place_cmp sort other.0 e.0)) everyone ≡ true → (row : Row) × IsIn rows row × IsBefore sort row e.1
+    earlier_row : (e : Place × Row) → IsIn everyone e → list_any (λ (other : Place × Row). is_lt (place_cmp sort other.0 e.0)) everyone ≡ true → (row : Row) × IsIn rows row × StandsBefore sort row e.1
     earlier_row e among any =
         let one = one_passes (λ (other : Place × Row). is_lt (place_cmp sort other.0 e.0)) everyone any in
         let from = from_place rows one.0 apart one.1 in
         (one.0.1, from.1, subst (λ (p : Place). is_lt (place_cmp sort p (place_of sort e.1)) ≡ true) from.0 (subst (λ (p : Place). is_lt (place_cmp sort one.0.0 p) ≡ true) (placed e among) one.2))
 
-    earlier_any : (e : Place × Row) → IsIn everyone e → (row : Row) → IsIn rows row → IsBefore sort row e.1 → list_any (λ (other : Place × Row). is_lt (place_cmp sort other.0 e.0)) everyone ≡ true
+    earlier_any : (e : Place × Row) → IsIn everyone e → (row : Row) → IsIn rows row → StandsBefore sort row e.1 → list_any (λ (other : Place × Row). is_lt (place_cmp sort other.0 e.0)) everyone ≡ true
     earlier_any e among row here less = passes (λ (other : Place × Row). is_lt (place_cmp sort other.0 e.0)) everyone (place_of sort row, row) (in_place rows row apart here)
         (subst (λ (p : Place). is_lt (place_cmp sort (place_of sort row) p) ≡ true) (sym (placed e among)) less)
 
-    later_row : (e : Place × Row) → IsIn everyone e → list_any (λ (other : Place × Row). is_lt (place_cmp sort e.0 other.0)) everyone ≡ true → (row : Row) × IsIn rows row × IsBefore sort e.1 row
+    later_row : (e : Place × Row) → IsIn everyone e → list_any (λ (other : Place × Row). is_lt (place_cmp sort e.0 other.0)) everyone ≡ true → (row : Row) × IsIn rows row × StandsBefore sort e.1 row
     later_row e among any =
         let one = one_passes (λ (other : Place × Row). is_lt (place_cmp sort e.0 other.0)) everyone any in
         let from = from_place rows one.0 apart one.1 in
         (one.0.1, from.1, subst (λ (p : Place). is_lt (place_cmp sort (place_of sort e.1) p) ≡ true) from.0 (subst (λ (p : Place). is_lt (place_cmp sort p one.0.0) ≡ true) (placed e among) one.2))
 
-    later_any : (e : Place × Row) → IsIn everyone e → (row : Row) → IsIn rows row → IsBefore sort e.1 row → list_any (λ (other : Place × Row). is_lt (place_cmp sort e.0 other.0)) everyone ≡ true
+    later_any : (e : Place × Row) → IsIn everyone e → (row : Row) → IsIn rows row → StandsBefore sort e.1 row → list_any (λ (other : Place × Row). is_lt (place_cmp sort e.0 other.0)) everyone ≡ true
     later_any e among row here less = passes (λ (other : Place × Row). is_lt (place_cmp sort e.0 other.0)) everyone (place_of sort row, row) (in_place rows row apart here)
         (subst (λ (p : Place). is_lt (place_cmp sort p (place_of sort row)) ≡ true) (sym (placed e among)) less)
 
@@ -325,7 +325,7 @@ module _ (sort : List SortKey) where
     earlier_is [] within = (λ e. cc e, λ has. cc has.is_first)
     earlier_is (e ∷ items) within = (
       λ any. let one = earlier_row e (within e (inl refl)) any in record { first = e.1; is_first = refl; row = one.0; among = one.1; earlier = one.2 },
-      λ has. earlier_any e (within e (inl refl)) has.row has.among (subst (λ (r : Row). IsBefore sort has.row r) (sym (same_Some e.1 has.first has.is_first)) has.earlier),
+      λ has. earlier_any e (within e (inl refl)) has.row has.among (subst (λ (r : Row). StandsBefore sort has.row r) (sym (same_Some e.1 has.first has.is_first)) has.earlier),
     )
 
     -- by the last item, if there is one
@@ -334,7 +334,7 @@ module _ (sort : List SortKey) where
     later_by items None within is = (λ e. cc e, λ has. cc (sym is ∙ has.is_last))
     later_by items (Some e) within is = (
       λ any. let one = later_row e (within e refl) any in record { last = e.1; is_last = is; row = one.0; among = one.1; later = one.2 },
-      λ has. later_any e (within e refl) has.row has.among (subst (λ (r : Row). IsBefore sort r has.row) (sym (same_Some e.1 has.last (sym is ∙ has.is_last))) has.later),
+      λ has. later_any e (within e refl) has.row has.among (subst (λ (r : Row). StandsBefore sort r has.row) (sym (same_Some e.1 has.last (sym is ∙ has.is_last))) has.later),
     )
 
     later_is : (items : List (Place × Row)) → ((e : Place × Row) → IsIn items e → IsIn everyone e) → IsTrue (any_after sort items everyone) ↔ HasLater sort rows (map (λ (e : Place × Row). e.1) items)
@@ -343,18 +343,18 @@ module _ (sort : List SortKey) where
     -- ---- one page
 
     rows_before : (items : List (Place × Row)) (row : Row) → ((e : Place × Row) → IsIn items e → IsIn everyone e) → AllByRecursion (λ (d : Place × Row). is_lt (place_cmp sort d.0 (place_of sort row)) ≡ true) items
-        → AllByRecursion (λ other. IsBefore sort other row) (map (λ (e : Place × Row). e.1) items)
-    rows_before items row within all = all_in (λ other. IsBefore sort other row) (map (λ (e : Place × Row). e.1) items) (λ other among.
+        → AllByRecursion (λ other. StandsBefore sort other row) (map (λ (e : Place × Row). e.1) items)
+    rows_before items row within all = all_in (λ other. StandsBefore sort other row) (map (λ (e : Place × Row). e.1) items) (λ other among.
         let one = from_map (λ (e : Place × Row). e.1) items other among in
         let less = in_all (λ (d : Place × Row). is_lt (place_cmp sort d.0 (place_of sort row)) ≡ true) items one.0 all one.1 in
-        subst (λ (r : Row). IsBefore sort r row) one.2 (subst (λ (p : Place). is_lt (place_cmp sort p (place_of sort row)) ≡ true) (placed one.0 (within one.0 one.1)) less))
+        subst (λ (r : Row). StandsBefore sort r row) one.2 (subst (λ (p : Place). is_lt (place_cmp sort p (place_of sort row)) ≡ true) (placed one.0 (within one.0 one.1)) less))
 
     rows_behind : (items : List (Place × Row)) (row : Row) → ((e : Place × Row) → IsIn items e → IsIn everyone e) → AllByRecursion (λ (d : Place × Row). is_lt (place_cmp sort (place_of sort row) d.0) ≡ true) items
-        → AllByRecursion (IsBefore sort row) (map (λ (e : Place × Row). e.1) items)
-    rows_behind items row within all = all_in (IsBefore sort row) (map (λ (e : Place × Row). e.1) items) (λ other among.
+        → AllByRecursion (StandsBefore sort row) (map (λ (e : Place × Row). e.1) items)
+    rows_behind items row within all = all_in (StandsBefore sort row) (map (λ (e : Place × Row). e.1) items) (λ other among.
         let one = from_map (λ (e : Place × Row). e.1) items other among in
         let less = in_all (λ (d : Place × Row). is_lt (place_cmp sort (place_of sort row) d.0) ≡ true) items one.0 all one.1 in
-        subst (λ (r : Row). IsBefore sort row r) one.2 (subst (λ (p : Place). is_lt (place_cmp sort (place_of sort row) p) ≡ true) (placed one.0 (within one.0 one.1)) less))
+        subst (λ (r : Row). StandsBefore sort row r) one.2 (subst (λ (p : Place). is_lt (place_cmp sort (place_of sort row) p) ≡ true) (placed one.0 (within one.0 one.1)) less))
 
     outside : (b : Bool) (items : List (Place × Row)) (row : Row) → ((e : Place × Row) → IsIn items e → IsIn everyone e) → IsOutside b (place_of sort row) items
         → StandsOutside sort b (map (λ (e : Place × Row). e.1) items) row
@@ -390,7 +390,7 @@ module _ (sort : List SortKey) where
               range = parts.0;
               row = rest.0.1;
               among = at.1;
-              between = subst (λ (p : Place). IsBetween sort page.after page.before p) at.0 is.1;
+              between = subst (λ (p : Place). IsAskedFor sort page.after page.before p) at.0 is.1;
               no_room = no_room page (slice_of sort page everyone) rest.0.1 items_in rest.2 (subst (λ (p : Place). IsOutside (ends_at_cursor page) p (slice_of sort page everyone)) at.0 rest.3);
             }
 
@@ -405,23 +405,23 @@ module _ (sort : List SortKey) where
             by (inr few) =
                 let among = is_asked page everyone (place_of sort cut.row, cut.row) (in_place rows cut.row apart cut.among) cut.between in
                 let here : IsIn (slice_of sort page everyone) (place_of sort cut.row, cut.row) = subst (λ (es : List (Place × Row)). IsIn es (place_of sort cut.row, cut.row)) (sym (cut_all (ends_at_cursor page) page.size (asked_for sort page everyone) starts few)) among in
-                let behind : AllByRecursion (λ other. IsBefore sort other cut.row) (shown page) = subst (λ (b : Bool). StandsOutside sort b (shown page) cut.row) starts cut.no_room.1 in
+                let behind : AllByRecursion (λ other. StandsBefore sort other cut.row) (shown page) = subst (λ (b : Bool). StandsOutside sort b (shown page) cut.row) starts cut.no_room.1 in
                 absurd (never_itself (place_cmp sort) (place_cmp_total sort) (place_of sort cut.row)
-                (in_all (λ other. IsBefore sort other cut.row) (shown page) cut.row behind (in_map (λ (e : Place × Row). e.1) (slice_of sort page everyone) (place_of sort cut.row, cut.row) here)))
+                (in_all (λ other. StandsBefore sort other cut.row) (shown page) cut.row behind (in_map (λ (e : Place × Row). e.1) (slice_of sort page everyone) (place_of sort cut.row, cut.row) here)))
 
     page_is : (page : Page) (items : List (Place × Row)) (truncated : Bool) → IsSlice page everyone items → IsTrue truncated ↔ IsCutShort sort page rows (map (λ (e : Place × Row). e.1) items)
         → IsPage sort page rows (record { rows = map (λ (e : Place × Row). e.1) items; before = any_before sort items everyone; after = any_after sort items everyone; truncated = truncated })
     page_is page items truncated slice cut =
         let within : (e : Place × Row) → IsIn items e → IsIn everyone e = λ e among. (slice.asked e among).0 in
         record {
-          in_order = pairwise_values (place_cmp sort) (IsBefore sort) items (λ d e p q less.
+          in_order = pairwise_values (place_cmp sort) (StandsBefore sort) items (λ d e p q less.
               subst (λ (a : Place). is_lt (place_cmp sort a (place_of sort e.1)) ≡ true) (placed d (within d p)) (subst (λ (a : Place). is_lt (place_cmp sort d.0 a) ≡ true) (placed e (within e q)) less)) slice.in_order;
           short = subst (λ n. n ≤ page.size) (sym (length-map items (λ (e : Place × Row). e.1))) slice.short;
           asked = λ row among.
               let one = from_map (λ (e : Place × Row). e.1) items row among in
               let asked = slice.asked one.0 one.1 in
               let from = from_place rows one.0 apart asked.0 in
-              (subst (λ (r : Row). IsIn rows r) one.2 from.1, subst (λ (r : Row). IsBetween sort page.after page.before (place_of sort r)) one.2 (subst (λ (p : Place). IsBetween sort page.after page.before p) from.0 asked.1));
+              (subst (λ (r : Row). IsIn rows r) one.2 from.1, subst (λ (r : Row). IsAskedFor sort page.after page.before (place_of sort r)) one.2 (subst (λ (p : Place). IsAskedFor sort page.after page.before p) from.0 asked.1));
           whole = λ row among asked.
               elim (slice.whole (place_of sort row, row) (in_place rows row apart among) asked) [
                 | inl here ↦ inl (in_map (λ (e : Place × Row). e.1) items (place_of sort row, row) here)
@@ -437,7 +437,7 @@ module _ (sort : List SortKey) where
 
     pub sorted_exact : AreSorted sort rows (sorted sort rows)
     sorted_exact = record {
-      in_order = pairwise_values (place_cmp sort) (IsBefore sort) everyone (λ d e p q less.
+      in_order = pairwise_values (place_cmp sort) (StandsBefore sort) everyone (λ d e p q less.
           subst (λ (a : Place). is_lt (place_cmp sort a (place_of sort e.1)) ≡ true) (placed d p) (subst (λ (a : Place). is_lt (place_cmp sort d.0 a) ≡ true) (placed e q) less)) (by_place_sorted rows);
       same_rows = λ row. (
         λ among.

@@ -1,4 +1,5 @@
 -- Resource objects and linkage are plain JSON, whose members stand in byte order.
+use Rattle.std.proofs.lemmas.Bool.{and_parts}
 use Rattle.std.proofs.Common.{◌≡◌, ℕ, ◌<◌, ◌^◌, List, [], ◌∷◌, ◌++◌, Bool, true, false, length, refl, sym, subst, Some, None, zero, suc, arith}
 use Rattle.std.specs.Prelude.{ℤ, pos, negsuc, IsTrue, IfSome, map, cond, codes, slice_get}
 use Rattle.std.specs.Option.{option_map_or}
@@ -32,7 +33,7 @@ use Rattle.store_model.specs.Valid.{IsLinkOf, IsValidRow}
 use Rattle.request_model.specs.Values.{integer, value_data}
 use Rattle.store_model.specs.Resource.{members_of, object_of, member_unless_empty, identifier, linkage, resource_path, relationship_object, is_shown, attribute_members, relationship_members, resource, Fields}
 use Rattle.store_model.specs.Laws.{Pairwise}
-use Rattle.store_model.proofs.Basics.{and_parts, all_in, in_all}
+use Rattle.store_model.proofs.Basics.{all_in, in_all}
 
 -- ---- values
 

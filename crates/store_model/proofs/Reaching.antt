@@ -17,9 +17,9 @@ use Rattle.world_cells.specs.Lists.{IsIn}
 use Rattle.store_model.specs.Included.{HasLink, IsReached, IsReachedAlong, IsReachedFrom, step, along, reached_keys, has_key, included}
 use Rattle.store_model.specs.Valid.{IsValid}
 use Rattle.store_model.specs.Laws.{HasLesserKey, IsIncluded, AreIncluded}
-use Rattle.store_model.proofs.Basics.{or_cases, and_true, and_parts, not_is_true, not_true, true_is_not_false, one_passes, any_flat_map, in_map, from_map, in_filter, from_filter, pairwise_values}
+use Rattle.store_model.proofs.Basics.{not_is_true, not_true, true_is_not_false, one_passes, any_flat_map, in_map, from_map, in_filter, from_filter, pairwise_values}
 use Rattle.store_model.specs.LinkLaws.{passes, find_in, find_of_in}
-use Rattle.std.proofs.lemmas.Bool.{or_left, or_right}
+use Rattle.std.proofs.lemmas.Bool.{or_cases, and_from, and_parts, or_left, or_right}
 
 module _ (schema : Schema) (w : World) where
   keys_of_row : (row : Option Row) (rel : ℕ) (to : Key) → list_any (same_key to) (option_map_or (λ r. linked schema r rel) row []) ≡ option_map_or (λ r. links_to schema r rel to) row false
@@ -126,7 +126,7 @@ module _ (schema : Schema) (w : World) where
         is.no_primary (subst (λ (k : Key). IsIn primaries k) (sym (key_is row.key one.0 one.2)) one.1)) in
         in_map (λ (e : Key × Row). e.1) (where_key key_cmp shown_key w.rows) (row.key, row) (
         in_filter (λ (e : Key × Row). shown_key e.0) w.rows (row.key, row) among (
-        and_true _ _ (reached_complete primaries paths row.key is.reached) no))
+        and_from _ _ (reached_complete primaries paths row.key is.reached) no))
 
     pub included_exactly : IsValid schema w → AreIncluded schema w primaries paths (included schema w primaries paths)
     included_exactly valid = record {

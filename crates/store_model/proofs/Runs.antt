@@ -17,7 +17,7 @@ use Rattle.task_forms.specs.declared.tasks.ReplyForm.{ReplyForm}
 use Rattle.store_model.specs.Change.{Lids, refused, done, outcome}
 use Rattle.store_model.specs.Run.{Ran, run, run_from, and_then, after_one, operation_pointer, refusal_under, blame_under}
 use Rattle.store_model.specs.Answer.{run_world, run_reply}
-use Rattle.store_model.specs.Laws.{AreDone, IsUnder, IsAllOrNothing, IsPlaced, is_list}
+use Rattle.store_model.specs.Laws.{AreDone, IsUnder, IsAllOrNothing, IsPlaced, is_list_form}
 use Rattle.store_model.proofs.Basics.{in_right, in_all}
 use Rattle.store_model.proofs.Sources.{refusal_sourced}
 
@@ -143,13 +143,13 @@ under_source in_list (header name) at b h = ap (blame_under at) h
 
 -- what a refused request is blamed for is what the code asks for
 pub run_sourced : (schema : Schema) (form : ReplyForm) (w : World) (operations : List Operation) (r : Refusal)
-    → AllByRecursion (IsPlaced (is_list form)) operations → run schema form w operations ≡ Err r → IsSourced (is_list form) r
+    → AllByRecursion (IsPlaced (is_list_form form)) operations → run schema form w operations ≡ Err r → IsSourced (is_list_form form) r
 run_sourced schema form w operations r placed e =
     by (subst (λ (q : Result Ran Refusal). Tells schema form 0 w [] operations q) e (run_tells schema form 0 w [] operations))
   where
-    by : FirstFrom schema form 0 w [] operations r → IsSourced (is_list form) r
+    by : FirstFrom schema form 0 w [] operations r → IsSourced (is_list_form form) r
     by first =
         let among : IsIn operations first.operation = subst (λ (all : List Operation). IsIn all first.operation) (sym first.split) (in_right first.earlier (first.operation ∷ first.later) first.operation (inl refl)) in
-        let here = in_all (IsPlaced (is_list form)) operations first.operation placed among in
-        let sourced = refusal_sourced (is_list form) schema first.world first.bound first.operation first.why here first.is_refused in
-        subst (λ (q : Refusal). IsSourced (is_list form) q) (sym first.told_so) (under_source (is_list form) ((told first.why.code).source) (operation_pointer form (0 + length first.earlier)) first.why.blame sourced)
+        let here = in_all (IsPlaced (is_list_form form)) operations first.operation placed among in
+        let sourced = refusal_sourced (is_list_form form) schema first.world first.bound first.operation first.why here first.is_refused in
+        subst (λ (q : Refusal). IsSourced (is_list_form form) q) (sym first.told_so) (under_source (is_list_form form) ((told first.why.code).source) (operation_pointer form (0 + length first.earlier)) first.why.blame sourced)

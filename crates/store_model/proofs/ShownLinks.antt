@@ -1,4 +1,5 @@
 -- What a row links to, its resource object shows.
+use Rattle.std.proofs.lemmas.Bool.{or_cases}
 use Rattle.std.proofs.Common.{◌≡◌, ℕ, List, [], ◌∷◌, true, false, refl, sym, ap, subst, ◌∙◌, Some, None, Option, inl, inr, zero, suc}
 use Rattle.std.specs.Prelude.{IsTrue, map, slice_get, get_or}
 use Rattle.std.specs.Option.{option_map_or}
@@ -16,7 +17,7 @@ use Rattle.world_cells.specs.World.{World, ids_of, no_link, link_at, links_to}
 use Rattle.store_model.specs.Valid.{IsLinkOf, IsValidRow}
 use Rattle.store_model.specs.Resource.{Fields, identifier, linkage, is_shown, relationship_object}
 use Rattle.store_model.specs.Laws.{NamesResource, ShowsLink}
-use Rattle.store_model.proofs.Basics.{or_cases, same_Some, one_passes, in_map, from_map, in_filter, all_zip_past}
+use Rattle.store_model.proofs.Basics.{same_Some, one_passes, in_map, from_map, in_filter, all_zip_past}
 
 zip_in : {A B : Type 0} (P : A → B → Type 0) (xs : List A) (ys : List B) (i : ℕ) (d : B) (x : A) → AllZip P xs ys → slice_get xs i ≡ Some x → IsIn (zip xs ys) (x, get_or ys i d)
 zip_in P [] [] i d x h e = cc

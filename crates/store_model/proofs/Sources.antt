@@ -19,14 +19,15 @@ use Rattle.world_cells.specs.World.{World, has_row, next_id, ids_of, link_at}
 use Rattle.world_cells.specs.declared.cells.TheConstants.{LAST_NEXT_ID}
 use Rattle.world_cells.specs.declared.rows.TheConstants.{LINK_LIMIT}
 use Rattle.resource_schema.specs.Kinds.{relationships_of}
-use Rattle.store_model.specs.Change.{Lids, key_of, bind, is_bound, is_referenced, created_key, named_row, member_ids, append_new, first_of, when, at_target, target_blame, refuse_key, refuse_target, refuse_named, refuse_member, refuse_linkage, refuse_links, linkage_pointer, member_pointer, name_pointer, refused}
+use Rattle.store_model.specs.Change.{Lids, key_of, bind, is_bound, is_referenced, created_key, named_row, member_ids, append_new, first_of, when, at_target, target_blame, refuse_key, refuse_target, refuse_named, refuse_member, refuse_linkage, refuse_links, linkage_pointer, pointer_of_member, name_pointer, refused}
 use Rattle.task_forms.specs.Fit.{kind_of}
 use Rattle.error_objects.specs.Refusals.{at_pointer, IsSource, IsSourced}
 use Rattle.error_objects.specs.Codes.{pointer_in_list, some_pointer}
-use Rattle.store_model.specs.Laws.{is_plain, IsPlaced}
+use Rattle.request_model.specs.Documents.{is_by_path}
+use Rattle.store_model.specs.Laws.{IsPlaced}
 use Rattle.error_objects.specs.Refusals.{refusal}
 
-at_place : (in_list : Bool) (place : Where) → is_plain place ≡ not in_list → IsSource in_list pointer_in_list (target_blame place [])
+at_place : (in_list : Bool) (place : Where) → is_by_path place ≡ not in_list → IsSource in_list pointer_in_list (target_blame place [])
 at_place true stands.Plain e = cc
 at_place true stands.Ref e = tt
 at_place true stands.Href e = tt
@@ -69,7 +70,7 @@ module _ (in_list : Bool) where
   named_sound there pointer (Some key) = when_sound (not (there key)) (at_pointer code.RelatedNotFound pointer) tt
 
   member_sound : (there : Key → Bool) (lids : Lids) (pointer : List ℕ) (m : Member) → Sound (refuse_member there lids pointer m)
-  member_sound there lids pointer m = named_sound there (member_pointer pointer m ++ name_pointer m.named) (key_of lids m.named)
+  member_sound there lids pointer m = named_sound there (pointer_of_member pointer m ++ name_pointer m.named) (key_of lids m.named)
 
   linkage_sound : (there : Key → Bool) (lids : Lids) (pointer : List ℕ) (old : List (List ℕ)) (members : List Member) → Sound (refuse_linkage there lids pointer old members)
   linkage_sound there lids pointer old members =
@@ -80,7 +81,7 @@ module _ (in_list : Bool) where
   links_sound : (there : Key → Bool) (lids : Lids) (rels : List Relationship) (links : List (ℕ × List Member)) → Sound (refuse_links there lids rels links)
   links_sound there lids rels links = first_sound (map (λ l. refuse_linkage there lids (linkage_pointer rels l.0) [] l.1) links) (map_sound (λ l. refuse_linkage there lids (linkage_pointer rels l.0) [] l.1) (λ l. linkage_sound there lids (linkage_pointer rels l.0) [] l.1) links)
 
-  key_sound : (w : World) (who : Who) (o : Option Key) → is_plain who.place ≡ not in_list → Sound (refuse_key w who o)
+  key_sound : (w : World) (who : Who) (o : Option Key) → is_by_path who.place ≡ not in_list → Sound (refuse_key w who o)
   key_sound w who None placed = under_place in_list who.place
   key_sound w who (Some key) placed = when_sound (not (has_row w key)) (at_target code.NotFound who []) (at_place in_list who.place placed)
 

@@ -13,13 +13,13 @@ use Rattle.task_forms.specs.declared.queries.Path.{Path}
 use Rattle.task_forms.specs.declared.queries.SortKey.{SortKey}
 use Rattle.store_model.specs.declared.pages.Selected.{Selected}
 use Rattle.store_model.specs.Pages.{place_cmp, place_cmp_total, place_of, ends_at_cursor}
-use Rattle.store_model.specs.Laws.{Pairwise, IsBefore, HasLesserKey, StandsOutside, HasNoRoom, IsCutShort, IsPage, HasEarlier, HasLater, AreSorted, AreIncluded}
+use Rattle.store_model.specs.Laws.{Pairwise, StandsBefore, HasLesserKey, StandsOutside, HasNoRoom, IsCutShort, IsPage, HasEarlier, HasLater, AreSorted, AreIncluded}
 use Rattle.store_model.proofs.Basics.{in_all}
 use Rattle.store_model.proofs.Strict.{never_itself, one_way, no_longer, same_items}
 
 pub sorted_is_one : (sort : List SortKey) (rows a b : List Row) → AreSorted sort rows a → AreSorted sort rows b → a ≡ b
 sorted_is_one sort rows a b p q =
-    same_items (IsBefore sort) (λ x. never_itself (place_cmp sort) (place_cmp_total sort) (place_of sort x)) (λ x y. one_way (place_cmp sort) (place_cmp_total sort) (place_of sort x) (place_of sort y))
+    same_items (StandsBefore sort) (λ x. never_itself (place_cmp sort) (place_cmp_total sort) (place_of sort x)) (λ x y. one_way (place_cmp sort) (place_cmp_total sort) (place_of sort x) (place_of sort y))
     a b p.in_order q.in_order (λ x among. (q.same_rows x).1 ((p.same_rows x).0 among)) (λ x among. (p.same_rows x).1 ((q.same_rows x).0 among))
 
 pub included_is_one : (schema : Schema) (w : World) (primaries : List Key) (paths : List Path) (a b : List Row) → AreIncluded schema w primaries paths a → AreIncluded schema w primaries paths b → a ≡ b
@@ -55,7 +55,7 @@ bool_is false true X f g = let no : false ≡ true = f.1 (g.0 refl) in cc no
 
 module _ (sort : List SortKey) (size : ℕ) where
   abbrev Before : Row → Row → Type 0
-  Before = IsBefore sort
+  Before = StandsBefore sort
 
   never : (x : Row) → Before x x → ⊥
   never x = never_itself (place_cmp sort) (place_cmp_total sort) (place_of sort x)
@@ -107,7 +107,7 @@ page_is_one sort page rows a b p q =
         cases (inr out) = absurd (not_outside sort page.size (ends_at_cursor page) a.rows b.rows x p.in_order q.in_order p.short among out (λ y there. p.whole y (q.asked y there).0 (q.asked y there).1))
 
     same : a.rows ≡ b.rows
-    same = same_items (IsBefore sort) (never sort page.size) (once sort page.size) a.rows b.rows p.in_order q.in_order (shown_too a b p q) (shown_too b a q p)
+    same = same_items (StandsBefore sort) (never sort page.size) (once sort page.size) a.rows b.rows p.in_order q.in_order (shown_too a b p q) (shown_too b a q p)
 
     earlier : a.before ≡ b.before
     earlier = bool_is a.before b.before (HasEarlier sort rows b.rows) (subst (λ l. IsTrue a.before ↔ HasEarlier sort rows l) same p.has_earlier) q.has_earlier

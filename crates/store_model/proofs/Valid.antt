@@ -6,7 +6,7 @@ use Rattle.std.specs.Cmp.{nat_cmp_total}
 use Rattle.std.specs.FinMap.{nat_cmp-IsAntisymmetric}
 use Rattle.std.specs.FinMap.Entries.{find, find-put, is_sorted-put}
 use Rattle.ident_rules.specs.declared.key.Key.{Key}
-use Rattle.ident_rules.specs.IdOrder.{is_equal}
+use Rattle.ident_rules.specs.IdOrder.{number_is, is_equal}
 use Rattle.resource_schema.specs.declared.schema.Schema.{Schema}
 use Rattle.world_cells.specs.declared.rows.Row.{Row}
 use Rattle.ident_rules.specs.Key.{key_cmp, key_cmp_total, same_key, key_is}
@@ -54,9 +54,6 @@ next_in_range schema w kind valid =
 
 pub counter-with_next : (w : World) (kind n j : ℕ) → find nat_cmp j ((with_next w kind n).counters) ≡ cond (eq_by_cmp nat_cmp j kind) (Some n) (find nat_cmp j w.counters)
 counter-with_next w kind n j = find-put nat_cmp nat_cmp_total j kind n w.counters
-
-number_is : (m n : ℕ) → eq_by_cmp nat_cmp m n ≡ true → m ≡ n
-number_is m n e = nat_cmp-IsAntisymmetric m n (is_equal (nat_cmp m n) e)
 
 pub grows_with_next : (w : World) (kind n : ℕ) → next_id w kind ≤ n → Grows w (with_next w kind n)
 grows_with_next w kind n low = record {

@@ -94,8 +94,8 @@ abbrev pub linkage_pointer : List Relationship → ℕ → List ℕ
 linkage_pointer rels rel = codes "/data/relationships/" ++ option_map_or (λ r. r.name) (slice_get rels rel) [] ++ codes "/data"
 
 -- the pointer of a member, and of what names it
-abbrev pub member_pointer : List ℕ → Member → List ℕ
-member_pointer linkage m = linkage ++ option_map_or (λ n. codes "/" ++ decimal n) m.index []
+abbrev pub pointer_of_member : List ℕ → Member → List ℕ
+pointer_of_member linkage m = linkage ++ option_map_or (λ n. codes "/" ++ decimal n) m.index []
 
 abbrev pub name_pointer : Named → List ℕ
 name_pointer (named.Id key) = codes "/id"
@@ -108,7 +108,7 @@ refuse_named there pointer (Some key) = when (not (there key)) (at_pointer code.
 
 -- one member of a linkage
 abbrev pub refuse_member : (Key → Bool) → Lids → List ℕ → Member → Option Refusal
-refuse_member there lids linkage m = refuse_named there (member_pointer linkage m ++ name_pointer m.named) (key_of lids m.named)
+refuse_member there lids linkage m = refuse_named there (pointer_of_member linkage m ++ name_pointer m.named) (key_of lids m.named)
 
 -- more ids behind those that are there, in their order, each once
 abbrev pub append_new : List (List ℕ) → List (List ℕ) → List (List ℕ)

@@ -17,7 +17,7 @@ use Rattle.world_cells.specs.World.{World, row_at, linked, link_at}
 use Rattle.task_forms.specs.declared.queries.Query.{Query}
 use Rattle.task_forms.specs.declared.queries.Path.{Path}
 use Rattle.task_forms.specs.declared.tasks.Fetch.{Fetch}
-use Rattle.request_model.specs.Links.{with_query}
+use Rattle.request_model.specs.Links.{path_with_query}
 use Rattle.request_model.specs.Cursors.{cursor_text}
 use Rattle.store_model.specs.Pages.{place_of, page_of, rows_of, rows_at, first_item, last_item}
 use Rattle.store_model.specs.declared.pages.Selected.{Selected}
@@ -43,7 +43,7 @@ pairs_with (p ∷ pairs) name text = if is_cursor p.0 then pairs_with pairs name
 
 -- the path with the request's pairs, and a cursor at a row
 abbrev pub link_text : List ℕ → Query → List ℕ → Row → List ℕ
-link_text path query name row = with_query path (pairs_with query.pairs name (cursor_text (place_of query.sort row)))
+link_text path query name row = path_with_query path (pairs_with query.pairs name (cursor_text (place_of query.sort row)))
 
 -- a link with the row's cursor, where a row stands beyond it
 abbrev pub page_link : List ℕ → Query → List ℕ → Option Row → Bool → Data

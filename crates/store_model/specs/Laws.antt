@@ -16,8 +16,6 @@ use Rattle.error_objects.specs.declared.refusals.Blame.{Blame}
 use Rattle.error_objects.specs.declared.refusals.Blame.TheVariants as blame
 use Rattle.error_objects.specs.declared.refusals.Refusal.{Refusal}
 use Rattle.error_objects.specs.ErrorReply.{error_reply}
-use Rattle.task_forms.specs.declared.operations.Where.{Where}
-use Rattle.task_forms.specs.declared.operations.Where.TheVariants as stands
 use Rattle.task_forms.specs.declared.operations.Operation.{Operation}
 use Rattle.task_forms.specs.declared.operations.Operation.TheVariants.{Create, Update, Remove, SetLinks, AddLinks, DropLinks}
 use Rattle.task_forms.specs.declared.queries.Page.{Page}
@@ -26,6 +24,7 @@ use Rattle.task_forms.specs.declared.queries.SortKey.{SortKey}
 use Rattle.task_forms.specs.declared.tasks.ReplyForm.{ReplyForm}
 use Rattle.task_forms.specs.declared.tasks.ReplyForm.TheVariants as reply_form
 use Rattle.task_forms.specs.declared.tasks.Task.TheVariants as task
+use Rattle.request_model.specs.Documents.{is_by_path}
 use Rattle.store_model.specs.Change.{Lids, refused, done}
 use Rattle.store_model.specs.Run.{Ran, operation_pointer, refusal_under}
 use Rattle.store_model.specs.Answer.{answer, effect}
@@ -50,26 +49,20 @@ Pairwise R (x ∷ xs) = AllByRecursion (R x) xs × Pairwise R xs
 
 -- ---- blame
 
-abbrev pub is_plain : Where → Bool
-is_plain stands.Plain = true
-is_plain stands.Ref = false
-is_plain stands.Href = false
-is_plain stands.Data = false
-
 -- the path names the resource of a plain request, and of no operation in a list
 abbrev pub IsPlaced : Bool → Operation → Type 0
 IsPlaced in_list (Create kind id lid values links) = ⊤
-IsPlaced in_list (Update who values links) = is_plain who.place ≡ not in_list
-IsPlaced in_list (Remove who) = is_plain who.place ≡ not in_list
-IsPlaced in_list (SetLinks who rel members) = is_plain who.place ≡ not in_list
-IsPlaced in_list (AddLinks who rel members) = is_plain who.place ≡ not in_list
-IsPlaced in_list (DropLinks who rel members) = is_plain who.place ≡ not in_list
+IsPlaced in_list (Update who values links) = is_by_path who.place ≡ not in_list
+IsPlaced in_list (Remove who) = is_by_path who.place ≡ not in_list
+IsPlaced in_list (SetLinks who rel members) = is_by_path who.place ≡ not in_list
+IsPlaced in_list (AddLinks who rel members) = is_by_path who.place ≡ not in_list
+IsPlaced in_list (DropLinks who rel members) = is_by_path who.place ≡ not in_list
 
-abbrev pub is_list : ReplyForm → Bool
-is_list reply_form.Created = false
-is_list reply_form.Updated = false
-is_list reply_form.Empty = false
-is_list reply_form.Results = true
+abbrev pub is_list_form : ReplyForm → Bool
+is_list_form reply_form.Created = false
+is_list_form reply_form.Updated = false
+is_list_form reply_form.Empty = false
+is_list_form reply_form.Results = true
 
 -- ---- all or nothing (Atomic Operations extension, "Processing")
 
@@ -142,22 +135,22 @@ abbrev pub AreApart : List Row → Type 0
 AreApart rows = (a b : Row) → IsIn rows a → IsIn rows b → a.key.id ≡ b.key.id → a ≡ b
 
 -- one row stands before another
-abbrev pub IsBefore : List SortKey → Row → Row → Type 0
-IsBefore sort a b = IsTrue (is_lt (place_cmp sort (place_of sort a) (place_of sort b)))
+abbrev pub StandsBefore : List SortKey → Row → Row → Type 0
+StandsBefore sort a b = IsTrue (is_lt (place_cmp sort (place_of sort a) (place_of sort b)))
 
 -- the same rows, each before all that follow it
 pub record AreSorted (sort : List SortKey) (rows listed : List Row) : Type 0 where
-  pub in_order : Pairwise (IsBefore sort) listed
+  pub in_order : Pairwise (StandsBefore sort) listed
   pub same_rows : (row : Row) → IsIn listed row ↔ IsIn rows row
 
 -- behind the one cursor, and before the other, as far as they are given
-abbrev pub IsBetween : List SortKey → Option Place → Option Place → Place → Type 0
-IsBetween sort after before p = IfSome after (λ cursor. IsTrue (is_lt (place_cmp sort cursor p))) × IfSome before (λ cursor. IsTrue (is_lt (place_cmp sort p cursor)))
+abbrev pub IsAskedFor : List SortKey → Option Place → Option Place → Place → Type 0
+IsAskedFor sort after before p = IfSome after (λ cursor. IsTrue (is_lt (place_cmp sort cursor p))) × IfSome before (λ cursor. IsTrue (is_lt (place_cmp sort p cursor)))
 
 -- a row stands before all that are shown, or behind them all
 abbrev pub StandsOutside : List SortKey → Bool → List Row → Row → Type 0
-StandsOutside sort true shown row = AllByRecursion (IsBefore sort row) shown
-StandsOutside sort false shown row = AllByRecursion (λ other. IsBefore sort other row) shown
+StandsOutside sort true shown row = AllByRecursion (StandsBefore sort row) shown
+StandsOutside sort false shown row = AllByRecursion (λ other. StandsBefore sort other row) shown
 
 -- A row for which a full page has no room: it stands behind all that are shown, or before them where the page ends at a cursor.
 abbrev pub HasNoRoom : List SortKey → Page → List Row → Row → Type 0
@@ -168,7 +161,7 @@ pub record IsCutShort (sort : List SortKey) (page : Page) (rows shown : List Row
   pub range : IsTrue (is_range page)
   pub row : Row
   pub among : IsIn rows row
-  pub between : IsBetween sort page.after page.before (place_of sort row)
+  pub between : IsAskedFor sort page.after page.before (place_of sort row)
   pub no_room : HasNoRoom sort page shown row
 
 -- a row stands before the first that is shown
@@ -177,7 +170,7 @@ pub record HasEarlier (sort : List SortKey) (rows shown : List Row) : Type 0 whe
   pub is_first : first_item shown ≡ Some first
   pub row : Row
   pub among : IsIn rows row
-  pub earlier : IsBefore sort row first
+  pub earlier : StandsBefore sort row first
 
 -- a row stands behind the last that is shown
 pub record HasLater (sort : List SortKey) (rows shown : List Row) : Type 0 where
@@ -185,14 +178,14 @@ pub record HasLater (sort : List SortKey) (rows shown : List Row) : Type 0 where
   pub is_last : last_item shown ≡ Some last
   pub row : Row
   pub among : IsIn rows row
-  pub later : IsBefore sort last row
+  pub later : StandsBefore sort last row
 
 -- One page of some rows: in order, at most the size, each asked for, and none that is asked for left out while there is room.
 pub record IsPage (sort : List SortKey) (page : Page) (rows : List Row) (shown : Selected) : Type 0 where
-  pub in_order : Pairwise (IsBefore sort) shown.rows
+  pub in_order : Pairwise (StandsBefore sort) shown.rows
   pub short : length shown.rows ≤ page.size
-  pub asked : (row : Row) → IsIn shown.rows row → IsIn rows row × IsBetween sort page.after page.before (place_of sort row)
-  pub whole : (row : Row) → IsIn rows row → IsBetween sort page.after page.before (place_of sort row) → IsIn shown.rows row ⊎ HasNoRoom sort page shown.rows row
+  pub asked : (row : Row) → IsIn shown.rows row → IsIn rows row × IsAskedFor sort page.after page.before (place_of sort row)
+  pub whole : (row : Row) → IsIn rows row → IsAskedFor sort page.after page.before (place_of sort row) → IsIn shown.rows row ⊎ HasNoRoom sort page shown.rows row
   pub has_earlier : IsTrue shown.before ↔ HasEarlier sort rows shown.rows
   pub has_later : IsTrue shown.after ↔ HasLater sort rows shown.rows
   pub is_cut_short : IsTrue shown.truncated ↔ IsCutShort sort page rows shown.rows

@@ -52,9 +52,9 @@ value_cmp = then_cmp (on form_number nat_cmp) (then_cmp (on int_part int_cmp) (t
 
 -- ---- the order of places: the sort values, each in its direction, and then the id
 
-abbrev pub first_value : List AttrValue → AttrValue
-first_value [] = value.Null
-first_value (v ∷ values) = v
+abbrev pub leading_value : List AttrValue → AttrValue
+leading_value [] = value.Null
+leading_value (v ∷ values) = v
 
 -- greater values first where the direction is descending
 abbrev pub in_direction : Bool → AttrValue → AttrValue → Ordering
@@ -64,7 +64,7 @@ in_direction false = value_cmp
 -- by the first value, and then by the others, each in its direction
 abbrev pub values_cmp : List SortKey → List AttrValue → List AttrValue → Ordering
 values_cmp [] = λ x y. Equal
-values_cmp (key ∷ sort) = then_cmp (on first_value (in_direction key.descending)) (on (drop 1) (values_cmp sort))
+values_cmp (key ∷ sort) = then_cmp (on leading_value (in_direction key.descending)) (on (drop 1) (values_cmp sort))
 
 -- by the values, and then by the id
 abbrev pub place_cmp : List SortKey → Place → Place → Ordering
@@ -97,17 +97,17 @@ abbrev pub last_item : {A : Type 0} → List A → Option A
 last_item = last_or None
 
 -- behind a cursor, and ahead of one, where it is given
-abbrev pub is_behind : List SortKey → Option Place → Place → Bool
-is_behind sort None p = true
-is_behind sort (Some cursor) p = is_lt (place_cmp sort cursor p)
+abbrev pub is_behind_cursor : List SortKey → Option Place → Place → Bool
+is_behind_cursor sort None p = true
+is_behind_cursor sort (Some cursor) p = is_lt (place_cmp sort cursor p)
 
-abbrev pub is_ahead : List SortKey → Option Place → Place → Bool
-is_ahead sort None p = true
-is_ahead sort (Some cursor) p = is_lt (place_cmp sort p cursor)
+abbrev pub is_ahead_of_cursor : List SortKey → Option Place → Place → Bool
+is_ahead_of_cursor sort None p = true
+is_ahead_of_cursor sort (Some cursor) p = is_lt (place_cmp sort p cursor)
 
 -- the items behind the one cursor and ahead of the other, as far as they are given
 abbrev pub asked_for : List SortKey → Page → List (Place × Row) → List (Place × Row)
-asked_for sort page all = where_key (place_cmp sort) (λ p. is_behind sort page.after p && is_ahead sort page.before p) all
+asked_for sort page all = where_key (place_cmp sort) (λ p. is_behind_cursor sort page.after p && is_ahead_of_cursor sort page.before p) all
 
 -- `page[before]` alone is given, so that the page ends at a cursor
 abbrev pub ends_at_cursor : Page → Bool
@@ -163,7 +163,7 @@ direction_total false = value_cmp_total
 
 pub values_cmp_total : (sort : List SortKey) → IsTotalOrder (values_cmp sort)
 values_cmp_total [] = record { antisymm = λ x y. refl; trans = λ x y z a b. a; congr = λ x y z e. refl }
-values_cmp_total (key ∷ sort) = then_total (on_total first_value (direction_total key.descending)) (on_total (drop 1) (values_cmp_total sort))
+values_cmp_total (key ∷ sort) = then_total (on_total leading_value (direction_total key.descending)) (on_total (drop 1) (values_cmp_total sort))
 
 pub place_cmp_total : (sort : List SortKey) → IsTotalOrder (place_cmp sort)
 place_cmp_total sort = then_total (on_total (λ p. p.values) (values_cmp_total sort)) (on_total (λ p. p.id) id_cmp_total)

@@ -26,7 +26,7 @@ ghost use Rattle.resource_schema.specs.SchemaRules.{is_schema};
 ghost use Rattle.task_forms.specs.Fit.{IsFit};
 ghost use Rattle.task_forms.specs.declared.tasks.Task.{Task};
 ghost use Rattle.store_model.specs.StoreMeaning.{meaning_of};
-ghost use Rattle.store_model.specs.Laws.{AreApart, AreIncluded, AreRowsAt, AreRowsOf, IsAllOrNothing, IsPage, IsFullyLinked, IsPlaced, HasPlainBody, AreSorted, ShowsResources, ShowsRows, is_list};
+ghost use Rattle.store_model.specs.Laws.{AreApart, AreIncluded, AreRowsAt, AreRowsOf, IsAllOrNothing, IsPage, IsFullyLinked, IsPlaced, HasPlainBody, AreSorted, ShowsResources, ShowsRows, is_list_form};
 
 /// The store's tasks keep what every meaning of tasks keeps: the empty world is valid and has no cell, a fit task leads
 /// from a valid world to a valid one, and a fetch and a reply of status 400 or above change nothing.
@@ -43,7 +43,7 @@ pub fn lists_are_all_or_nothing()
 /// A refused change blames what the code of its refusal asks for (JSON:API 1.1, "Error Objects"), where the operations
 /// are those of a plain request or of a list, as the form of the reply says.
 pub fn refusals_are_sourced()
-    ensures { (schema : List Kind) (form : ReplyForm) (w : World) (operations : List Operation) (r : Refusal) → AllByRecursion (IsPlaced (is_list form)) operations → run schema form w operations ≡ Err r → IsSourced (is_list form) r }
+    ensures { (schema : List Kind) (form : ReplyForm) (w : World) (operations : List Operation) (r : Refusal) → AllByRecursion (IsPlaced (is_list_form form)) operations → run schema form w operations ≡ Err r → IsSourced (is_list_form form) r }
 {}
 
 /// What is computed as included is exactly what the paths reach from the primaries, less the primaries, each row once

@@ -1,5 +1,5 @@
 ghost use Rattle.std.specs.Prelude.{◌≡◌, IfOk};
-ghost use Rattle.request_model.specs.Links.{resource_link, related_link, relationship_link, with_query};
+ghost use Rattle.request_model.specs.Links.{resource_link, related_link, relationship_link, path_with_query};
 
 use form_urlencoded::Serializer;
 use ident_rules::{Id, Name, NoMemory, Text};
@@ -42,7 +42,7 @@ pub fn relationship_link(alloc: Global, kind: &Name, id: &Id, rel: &Name) -> Res
 /// The path, `?` and the pairs as a web form writes them (RFC 3986, section 3.4; the URL Standard,
 /// "application/x-www-form-urlencoded serializing"). Its one error is want of memory.
 pub fn with_query(alloc: Global, path: &str, pairs: &[(Text, Text)]) -> Result<Text, NoMemory>
-    ensures { IfOk result (λ t. t ≡ with_query path.now pairs.now) }
+    ensures { IfOk result (λ t. t ≡ path_with_query path.now pairs.now) }
 {
     let mut form = Serializer::new(String::new(alloc));
     for (name, value) in pairs {

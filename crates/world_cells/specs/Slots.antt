@@ -15,10 +15,10 @@ abbrev pub bytes_of_key : Key → List ℕ
 bytes_of_key k = to_be_bytes w32 k.kind ++ k.id
 
 -- the number of the variant in one byte, and the fields in order
-abbrev pub bytes_of : CellKey → List ℕ
-bytes_of (cell_key.Row k) = 0 ∷ bytes_of_key k
-bytes_of (cell_key.Back to from rel) = 1 ∷ (bytes_of_key to ++ (bytes_of_key from ++ to_be_bytes w32 rel))
-bytes_of (cell_key.Counter kind) = 2 ∷ to_be_bytes w32 kind
+abbrev pub cell_key_bytes : CellKey → List ℕ
+cell_key_bytes (cell_key.Row k) = 0 ∷ bytes_of_key k
+cell_key_bytes (cell_key.Back to from rel) = 1 ∷ (bytes_of_key to ++ (bytes_of_key from ++ to_be_bytes w32 rel))
+cell_key_bytes (cell_key.Counter kind) = 2 ∷ to_be_bytes w32 kind
 
 abbrev pub with_byte : ℕ → ℕ → ℕ
 with_byte slot byte = (slot * 31 + byte) % SLOTS
@@ -34,7 +34,7 @@ with_bytes-append slot (x ∷ xs) ys = with_bytes-append (with_byte slot x) xs y
 
 -- one of `SLOTS`
 abbrev pub slot_of : CellKey → ℕ
-slot_of k = with_bytes 0 (bytes_of k)
+slot_of k = with_bytes 0 (cell_key_bytes k)
 
 -- ---- groups
 

@@ -2,7 +2,7 @@ use Rattle.std.proofs.Common.{◌≡◌, map}
 use Rattle.std.specs.List.{enumerate_from}
 use Rattle.serde_json.specs.View.{view}
 use Rattle.request_model.specs.Words.{all_ok}
-use Rattle.request_model.specs.FirstErrors.{onto}
+use Rattle.request_model.specs.ReadingLaws.{onto}
 use Rattle.request_model.specs.Documents.{indexed}
 use Rattle.resource_reader.proofs.Items.{placed}
 use Rattle.resource_reader.proofs.linkages.read_items.Given as goal

@@ -1,6 +1,6 @@
 use Rattle.std.proofs.Common.{ap, ◌∙◌}
 use Rattle.std.specs.Result.{result_ok}
-use Rattle.request_model.specs.ReadNames.{id_or_none}
+use Rattle.request_model.specs.ReadingLaws.{id_or_none}
 use Rattle.route_table.proofs.routes.id_of.Goals as goal
 
 pub returns : goal.returns

@@ -1,6 +1,6 @@
 use Rattle.std.proofs.Common.{◌≡◌, map}
 use Rattle.request_model.specs.Words.{all_ok}
-use Rattle.request_model.specs.FirstErrors.{onto}
+use Rattle.request_model.specs.ReadingLaws.{onto}
 use Rattle.request_model.specs.SchemaFile.{kind_from}
 use Rattle.document_parts.specs.Walks.{members_in, seen}
 use Rattle.schema_file.proofs.kinds.read_kinds.Given as goal

@@ -1,6 +1,6 @@
 use Rattle.std.proofs.Common.{ap, ◌∙◌}
 use Rattle.std.specs.Result.{result_ok}
-use Rattle.request_model.specs.ReadNames.{name_or_none}
+use Rattle.request_model.specs.ReadingLaws.{name_or_none}
 use Rattle.schema_file.proofs.names.name_of.Goals as goal
 
 pub returns-clause-value : goal.returns-clause-value
