@@ -1,12 +1,13 @@
 -- A line that was sent, or a proper prefix of it, is a refusal.
-use Rattle.std.proofs.Common.{◌≡◌, ℕ, List, Option, inl, inr}
+use Rattle.std.proofs.Common.{◌≡◌, ℕ, List, inl, inr}
 use Rattle.std.specs.Prelude.{⊤, Result, Ok, Err}
 use Rattle.outer_ends.specs.declared.traits.Failed.{Failed}
 use Rattle.outer_ends.specs.Causes.{HasCause}
 use Rattle.outer_ends.specs.Streams.{Sends}
-use Rattle.commands.specs.Pipes.{refused_status, Refuses}
+use Rattle.outer_ends.specs.Told.{SinkTold}
+use Rattle.commands.specs.Pipes.{refusal_status, Refuses}
 
-pub refuses_by : (text : List ℕ) (writes writes_now : ℕ) (written written_now : Option (List ℕ)) (sent : Result ⊤ Failed) (status : ℕ)
-    → Sends written written_now text sent → HasCause writes writes_now sent → status ≡ refused_status sent → Refuses text writes writes_now written written_now status
-refuses_by text writes writes_now written written_now (Ok done) status sends cause is = inl (is, sends.whole, cause.kept)
-refuses_by text writes writes_now written written_now (Err failed) status sends cause is = inr (is, sends.front, cause.failed)
+pub refuses_by : (text : List ℕ) (sink sink_now : SinkTold) (sent : Result ⊤ Failed) (status : ℕ)
+    → Sends sink sink_now text sent → HasCause sink.faults sink_now.faults sent → status ≡ refusal_status sent → Refuses text sink sink_now status
+refuses_by text sink sink_now (Ok done) status sends cause is = inl (is, sends.whole, cause.kept)
+refuses_by text sink sink_now (Err failed) status sends cause is = inr (is, sends.front, cause.failed)

@@ -5,6 +5,7 @@ use Rattle.std.specs.Io.KnownBytes.{Appends}
 use Rattle.outer_ends.specs.declared.traits.Failed.{Failed}
 use Rattle.outer_ends.specs.Causes.{Rose}
 use Rattle.outer_ends.specs.Streams.{AppendsFront}
+use Rattle.outer_ends.specs.Told.{SinkTold}
 
 abbrev pub help_text : List ℕ
 help_text =
@@ -21,12 +22,16 @@ notice_for (word ∷ []) = if bytes_eq word (codes "--help") then Some help_text
 notice_for words = None
 
 -- the exit status for a notice that was sent
-abbrev pub told_status : Result ⊤ Failed → ℕ
-told_status (Ok sent) = 0
-told_status (Err failed) = 1
+abbrev pub notice_status : Result ⊤ Failed → ℕ
+notice_status (Ok sent) = 0
+notice_status (Err failed) = 1
 
--- the notice was written, or a proper prefix of it by a sink that failed
-abbrev pub Tells : List ℕ → ℕ → ℕ → Option (List ℕ) → Option (List ℕ) → ℕ → Type 0
-Tells text writes writes_now written written_now status =
-    ((status ≡ 0) × Appends written written_now text × (writes_now ≡ writes))
-    ⊎ ((status ≡ 1) × AppendsFront written written_now text × Rose writes writes_now)
+-- the text was written and the status is that of a good end, or a proper prefix of it was written by a sink that failed
+abbrev pub Writes : ℕ → List ℕ → SinkTold → SinkTold → ℕ → Type 0
+Writes good text sink sink_now status =
+    ((status ≡ good) × Appends sink.written sink_now.written text × (sink_now.faults ≡ sink.faults))
+    ⊎ ((status ≡ 1) × AppendsFront sink.written sink_now.written text × Rose sink.faults sink_now.faults)
+
+-- the notice was written
+abbrev pub Tells : List ℕ → SinkTold → SinkTold → ℕ → Type 0
+Tells = Writes 0

@@ -1,15 +1,15 @@
 -- What a run of `pipe` comes to.
-use Rattle.std.specs.Prelude.{◌≡◌, ◌⊎◌, ℕ, ⊤, Bool, false, List, [], ◌∷◌, ◌++◌, codes, if◌then◌else◌, IfSome, Option, Some, None, Result, Ok, Err}
+use Rattle.std.specs.Prelude.{◌≡◌, ◌≢◌, ◌⊎◌, ℕ, ⊤, Bool, false, List, [], ◌∷◌, ◌++◌, codes, if◌then◌else◌, IsTrue, IsFalse, IsNone, IfSome, Option, Some, None, Result, Ok, Err}
 use Rattle.std.specs.Str.{bytes_eq}
 use Rattle.std.specs.Io.KnownBytes.{Appends, Consumes}
 use Rattle.outer_ends.specs.declared.traits.Failed.{Failed}
-use Rattle.outer_ends.specs.Causes.{Rose}
-use Rattle.outer_ends.specs.Streams.{AppendsFront}
+use Rattle.outer_ends.specs.Told.{SourceTold, SinkTold, OpenerTold}
 use Rattle.world_cells.specs.World.{empty_world}
 use Rattle.http_messages.specs.declared.ends.SessionEnd.{SessionEnd}
 use Rattle.http_messages.specs.declared.ends.SessionEnd.TheVariants.{Closed, Refused, CutShort, ReadFault, WriteFault, NoMemory, Worn}
 use Rattle.http_model.specs.Served.{Served}
 use Rattle.resource_schema.specs.declared.schema.Schema.{Schema}
+use Rattle.resource_schema.specs.Kinds.{notes}
 use Rattle.resource_schema.specs.declared.faults.Why.{Why}
 use Rattle.schema_file.specs.FaultWords.{word_of}
 use Rattle.task_forms.specs.declared.tasks.Entry.{Entry}
@@ -20,7 +20,17 @@ use Rattle.session_engine.specs.Plans.{plans_of}
 use Rattle.session_engine.specs.Seen.{EndCause}
 use Rattle.commands.specs.declared.schemas.SchemaRead.{SchemaRead}
 use Rattle.commands.specs.declared.schemas.SchemaRead.TheVariants as schema
-use Rattle.commands.specs.SchemaFiles.{IsFound, HasMiss, HasFault}
+use Rattle.commands.specs.Notices.{Writes, notice_for, Tells}
+use Rattle.commands.specs.SchemaFiles.{IsFound, IsOpened, HasMiss, HasFault}
+
+-- the three ends of a command
+pub record Ends : Type 0 where
+  pub source : SourceTold
+  pub sink : SinkTold
+  pub opener : OpenerTold
+
+abbrev pub ends : SourceTold → SinkTold → OpenerTold → Ends
+ends source sink opener = record { source = source; sink = sink; opener = opener }
 
 -- ---- words
 
@@ -45,15 +55,13 @@ abbrev pub schema_line : List ℕ → Why → List ℕ
 schema_line place why = (((codes "jsonapid: schema " ++ place) ++ codes " ") ++ word_of why) ++ 10 ∷ []
 
 -- the line was written, or a proper prefix of it by a sink that failed
-abbrev pub Refuses : List ℕ → ℕ → ℕ → Option (List ℕ) → Option (List ℕ) → ℕ → Type 0
-Refuses text writes writes_now written written_now status =
-    ((status ≡ 2) × Appends written written_now text × (writes_now ≡ writes))
-    ⊎ ((status ≡ 1) × AppendsFront written written_now text × Rose writes writes_now)
+abbrev pub Refuses : List ℕ → SinkTold → SinkTold → ℕ → Type 0
+Refuses = Writes 2
 
 -- the exit status for a line that was sent
-abbrev pub refused_status : Result ⊤ Failed → ℕ
-refused_status (Ok sent) = 2
-refused_status (Err failed) = 1
+abbrev pub refusal_status : Result ⊤ Failed → ℕ
+refusal_status (Ok sent) = 2
+refusal_status (Err failed) = 1
 
 -- ---- a session
 
@@ -70,56 +78,63 @@ status_of Worn = 5
 -- There are entries, a legal history from the empty world, and an end, so that what was written is what a session over the
 -- input may have sent with them, and a store that took every entry; the status is that end's, and a fault ends it only
 -- where its count rose.
-pub record Session (schema : Schema) (reads reads_now writes writes_now : ℕ) (taken taken_now left left_now written written_now : Option (List ℕ)) (status : ℕ) : Type 0 where
+pub record Session (schema : Schema) (source source_now : SourceTold) (sink sink_now : SinkTold) (status : ℕ) : Type 0 where
   pub entries : List Entry
   pub legal : IsLegal (desk_meaning schema) empty_world entries
   pub answered : ℕ
   pub end : SessionEnd
+  pub not_worn : end ≢ Worn
   pub bytes : List ℕ
-  pub taken_more : Appends taken taken_now bytes
-  pub left_less : Consumes left left_now bytes
+  pub taken_more : Appends source.taken source_now.taken bytes
+  pub left_less : Consumes source.left source_now.left bytes
   pub out : List ℕ
-  pub written_more : Appends written written_now out
-  pub served : IfSome left (λ all. Served (plans_of (planned_so_far schema)) 0 all bytes false answered entries out end)
+  pub written_more : Appends sink.written sink_now.written out
+  pub served : IfSome source.left (λ all. Served (plans_of (planned_so_far schema)) 0 all bytes false answered entries out end)
   pub status_is : status ≡ status_of end
-  pub cause : EndCause reads reads_now writes writes_now end
+  pub cause : EndCause source source_now sink sink_now end
 
 -- nothing was read or written, and nothing failed
-pub record Untouched (reads reads_now writes writes_now : ℕ) (taken taken_now left left_now written written_now : Option (List ℕ)) : Type 0 where
-  pub no_read_fault : reads_now ≡ reads
-  pub no_write_fault : writes_now ≡ writes
-  pub taken_kept : taken_now ≡ taken
-  pub left_kept : left_now ≡ left
-  pub written_kept : written_now ≡ written
+pub record Untouched (source source_now : SourceTold) (sink sink_now : SinkTold) : Type 0 where
+  pub source_kept : source_now ≡ source
+  pub sink_kept : sink_now ≡ sink
 
 -- a session over the schema, or want of memory before it
-abbrev pub Pipes : Schema → ℕ → ℕ → ℕ → ℕ → Option (List ℕ) → Option (List ℕ) → Option (List ℕ) → Option (List ℕ) → Option (List ℕ) → Option (List ℕ) → ℕ → Type 0
-Pipes schema reads reads_now writes writes_now taken taken_now left left_now written written_now status =
-    Session schema reads reads_now writes writes_now taken taken_now left left_now written written_now status
-    ⊎ ((status ≡ 5) × Untouched reads reads_now writes writes_now taken taken_now left left_now written written_now)
+abbrev pub Pipes : Schema → SourceTold → SourceTold → SinkTold → SinkTold → ℕ → Type 0
+Pipes schema source source_now sink sink_now status =
+    Session schema source source_now sink sink_now status ⊎ ((status ≡ 5) × Untouched source source_now sink sink_now)
 
 -- a refusal before the session: nothing was read
-abbrev pub RefusesUnread : List ℕ → ℕ → ℕ → ℕ → ℕ → Option (List ℕ) → Option (List ℕ) → Option (List ℕ) → Option (List ℕ) → Option (List ℕ) → Option (List ℕ) → ℕ → Type 0
-RefusesUnread text reads reads_now writes writes_now taken taken_now left left_now written written_now status =
-    (reads_now ≡ reads) × (taken_now ≡ taken) × (left_now ≡ left) × Refuses text writes writes_now written written_now status
+abbrev pub RefusesUnread : List ℕ → SourceTold → SourceTold → SinkTold → SinkTold → ℕ → Type 0
+RefusesUnread text source source_now sink sink_now status = (source_now ≡ source) × Refuses text sink sink_now status
 
 -- what follows on what the schema file gave
-abbrev pub PipesRead : List ℕ → SchemaRead → ℕ → ℕ → ℕ → ℕ → Option (List ℕ) → Option (List ℕ) → Option (List ℕ) → Option (List ℕ) → Option (List ℕ) → Option (List ℕ) → ℕ → Type 0
-PipesRead path (schema.Good s) reads reads_now writes writes_now taken taken_now left left_now written written_now status =
-    Pipes s reads reads_now writes writes_now taken taken_now left left_now written written_now status
-PipesRead path schema.Missing reads reads_now writes writes_now taken taken_now left left_now written written_now status =
-    RefusesUnread (line (codes "missing ") path) reads reads_now writes writes_now taken taken_now left left_now written written_now status
-PipesRead path schema.TooLarge reads reads_now writes writes_now taken taken_now left left_now written written_now status =
-    RefusesUnread (line (codes "schema too large") []) reads reads_now writes writes_now taken taken_now left left_now written written_now status
-PipesRead path (schema.Fault place why) reads reads_now writes writes_now taken taken_now left left_now written written_now status =
-    RefusesUnread (schema_line place why) reads reads_now writes writes_now taken taken_now left left_now written written_now status
-PipesRead path schema.Failed reads reads_now writes writes_now taken taken_now left left_now written written_now status =
-    (status ≡ 1) × Untouched reads reads_now writes writes_now taken taken_now left left_now written written_now
-PipesRead path schema.NoMemory reads reads_now writes writes_now taken taken_now left left_now written written_now status =
-    (status ≡ 5) × Untouched reads reads_now writes writes_now taken taken_now left left_now written written_now
+abbrev pub PipesRead : List ℕ → SchemaRead → SourceTold → SourceTold → SinkTold → SinkTold → ℕ → Type 0
+PipesRead path (schema.Good s) source source_now sink sink_now status = Pipes s source source_now sink sink_now status
+PipesRead path schema.Missing source source_now sink sink_now status =
+    RefusesUnread (line (codes "missing ") path) source source_now sink sink_now status
+PipesRead path schema.TooLarge source source_now sink sink_now status =
+    RefusesUnread (line (codes "schema too large") []) source source_now sink sink_now status
+PipesRead path (schema.Fault place why) source source_now sink sink_now status =
+    RefusesUnread (schema_line place why) source source_now sink sink_now status
+PipesRead path schema.Failed source source_now sink sink_now status = (status ≡ 1) × Untouched source source_now sink sink_now
+PipesRead path schema.NoMemory source source_now sink sink_now status = (status ≡ 5) × Untouched source source_now sink sink_now
 
--- what the opener gave for the path, with its causes
-pub record IsReadBy (files : Option (List (List ℕ × List ℕ))) (misses misses_now faults faults_now : ℕ) (path : List ℕ) (read : SchemaRead) : Type 0 where
-  pub missed : HasMiss misses misses_now read
-  pub failed : HasFault faults faults_now read
-  pub found : IsFound files path read
+-- what the opener gave for the path, with its causes; it still tells the same files
+pub record IsReadBy {S : Type 0} (told : S → SourceTold) (opener opener_now : OpenerTold) (path : List ℕ) (read : SchemaRead) : Type 0 where
+  pub missed : HasMiss opener opener_now read
+  pub failed : HasFault opener.faults opener_now.faults read
+  pub files : opener_now.files ≡ opener.files
+  pub found : IsFound opener.files path read
+  pub opened : IsOpened told read
+
+-- what the command comes to with its words
+pub record PipesBy {S : Type 0} (told : S → SourceTold) (words : List (List ℕ)) (before now : Ends) (status : ℕ) : Type 0 where
+  pub notes : IsTrue (is_pipe words) → Pipes notes before.source now.source before.sink now.sink status
+  pub path : IfSome (path_of words)
+    (λ path. (read : SchemaRead) × IsReadBy told before.opener now.opener path read × PipesRead path read before.source now.source before.sink now.sink status)
+  pub refuses : IsFalse (is_pipe words) → IsNone (path_of words) → Refuses (line (codes "words") []) before.sink now.sink status
+
+-- what the program comes to with its words: a notice, or the command
+pub record CommandBy {S : Type 0} (told : S → SourceTold) (words : List (List ℕ)) (before now : Ends) (status : ℕ) : Type 0 where
+  pub notice : IfSome (notice_for words) (λ text. Tells text before.sink now.sink status)
+  pub pipes : IsNone (notice_for words) → PipesBy told words before now status

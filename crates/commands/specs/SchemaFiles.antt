@@ -2,10 +2,12 @@
 use Rattle.std.specs.Prelude.{◌≡◌, ℕ, ◌<◌, ◌≤◌, ⊤, List, [], ◌++◌, length, IfSome, IsSome, Option, Some, None, Result, Ok, Err}
 use Rattle.std.specs.Io.KnownBytes.{Consumes, IsAtEnd}
 use Rattle.outer_ends.specs.Causes.{Rose}
-use Rattle.outer_ends.specs.Opens.{bytes_of}
+use Rattle.outer_ends.specs.Opens.{bytes_of, IsFresh}
+use Rattle.outer_ends.specs.Told.{SourceTold, OpenerTold}
 use Rattle.resource_schema.specs.declared.schema.Schema.{Schema as SchemaKinds}
 use Rattle.resource_schema.specs.declared.faults.SchemaFault.{SchemaFault}
 use Rattle.request_model.specs.SchemaFile.{schema_of_text}
+use Rattle.commands.specs.declared.schemas.TheConstants.{SCHEMA_FILE_LIMIT}
 use Rattle.commands.specs.declared.schemas.FileBytes.{FileBytes}
 use Rattle.commands.specs.declared.schemas.FileBytes.TheVariants as file
 use Rattle.commands.specs.declared.schemas.Piece.{Piece}
@@ -13,30 +15,25 @@ use Rattle.commands.specs.declared.schemas.Piece.TheVariants as piece
 use Rattle.commands.specs.declared.schemas.SchemaRead.{SchemaRead}
 use Rattle.commands.specs.declared.schemas.SchemaRead.TheVariants as schema
 
--- the most bytes of a schema file
-abbrev pub file_limit : ℕ
-file_limit = 1048576
-
 -- what one read said of the count of faults
-abbrev pub IsPieceCause : ℕ → ℕ → Piece → Type 0
-IsPieceCause faults faults_now piece.End = faults_now ≡ faults
-IsPieceCause faults faults_now piece.More = faults_now ≡ faults
-IsPieceCause faults faults_now piece.Failed = Rose faults faults_now
-IsPieceCause faults faults_now piece.NoMemory = faults_now ≡ faults
+abbrev pub IsPieceCause : SourceTold → SourceTold → Piece → Type 0
+IsPieceCause source source_now piece.Failed = Rose source.faults source_now.faults
+IsPieceCause source source_now read = source_now.faults ≡ source.faults
 
 -- what it gave, behind what was read
-abbrev pub IsPiece : Option (List ℕ) → Option (List ℕ) → List ℕ → List ℕ → Piece → Type 0
-IsPiece left left_now bytes bytes_now piece.End = Consumes left left_now [] × IsAtEnd left_now × (bytes_now ≡ bytes)
-IsPiece left left_now bytes bytes_now piece.More = (more : List ℕ) × Consumes left left_now more × (bytes_now ≡ bytes ++ more) × (0 < length more)
-IsPiece left left_now bytes bytes_now piece.Failed = ⊤
-IsPiece left left_now bytes bytes_now piece.NoMemory = ⊤
+abbrev pub IsPiece : SourceTold → SourceTold → List ℕ → List ℕ → Piece → Type 0
+IsPiece source source_now bytes bytes_now piece.End = Consumes source.left source_now.left [] × IsAtEnd source_now.left × (bytes_now ≡ bytes)
+IsPiece source source_now bytes bytes_now piece.More = (more : List ℕ) × Consumes source.left source_now.left more × (bytes_now ≡ bytes ++ more) × (0 < length more)
+IsPiece source source_now bytes bytes_now piece.Failed = ⊤
+IsPiece source source_now bytes bytes_now piece.NoMemory = ⊤
 
--- what a source gave, which had these bytes left where it tells them
-abbrev pub IsRead : Option (List ℕ) → ℕ → ℕ → FileBytes → Type 0
-IsRead left faults faults_now (file.Whole bytes) = (faults_now ≡ faults) × (length bytes.items ≤ file_limit) × IfSome left (λ all. bytes.items ≡ all)
-IsRead left faults faults_now file.TooLarge = (faults_now ≡ faults) × IfSome left (λ all. file_limit < length all)
-IsRead left faults faults_now file.Failed = Rose faults faults_now
-IsRead left faults faults_now file.NoMemory = faults_now ≡ faults
+-- what a source gave, by the bytes that it had left, where it tells them
+abbrev pub IsRead : SourceTold → SourceTold → FileBytes → Type 0
+IsRead source source_now (file.Whole bytes) =
+    (source_now.faults ≡ source.faults) × (length bytes.items ≤ SCHEMA_FILE_LIMIT) × IfSome source.left (λ all. bytes.items ≡ all)
+IsRead source source_now file.TooLarge = (source_now.faults ≡ source.faults) × IfSome source.left (λ all. SCHEMA_FILE_LIMIT < length all)
+IsRead source source_now file.Failed = Rose source.faults source_now.faults
+IsRead source source_now file.NoMemory = source_now.faults ≡ source.faults
 
 -- what a schema file gave whose bytes come to this schema, or this fault
 abbrev pub IsParsed : Result SchemaKinds SchemaFault → SchemaRead → Type 0
@@ -51,14 +48,14 @@ IsParsed d schema.Failed = ⊥
 pub record Parses (told : Option (List ℕ)) (d : Result SchemaKinds SchemaFault) : Type 0 where
   pub bytes : List ℕ
   pub are_told : IfSome told (λ all. bytes ≡ all)
-  pub few : length bytes ≤ file_limit
+  pub few : length bytes ≤ SCHEMA_FILE_LIMIT
   pub comes_to : schema_of_text bytes ≡ d
 
 -- what a schema file gave that was open, and had these bytes where it tells them
 abbrev pub IsContent : Option (List ℕ) → SchemaRead → Type 0
 IsContent told (schema.Good s) = Parses told (Ok s)
 IsContent told (schema.Fault place why) = Parses told (Err (record { place = place; why = why }))
-IsContent told schema.TooLarge = IfSome told (λ all. file_limit < length all)
+IsContent told schema.TooLarge = IfSome told (λ all. SCHEMA_FILE_LIMIT < length all)
 IsContent told schema.Missing = ⊥
 IsContent told schema.Failed = ⊤
 IsContent told schema.NoMemory = ⊤
@@ -75,12 +72,18 @@ IsFound files path schema.Failed = ⊤
 IsFound files path schema.NoMemory = ⊤
 IsFound files path read = IfSome files (λ all. IsSome (bytes_of path all)) × IsContent (told_of files path) read
 
--- it is missing only where the count of misses rose
-abbrev pub HasMiss : ℕ → ℕ → SchemaRead → Type 0
-HasMiss misses misses_now schema.Missing = Rose misses misses_now
-HasMiss misses misses_now read = misses_now ≡ misses
+-- a source of the opener was read for it, unused until then, also where the opener tells no files
+abbrev pub IsOpened : {S : Type 0} → (S → SourceTold) → SchemaRead → Type 0
+IsOpened told schema.Missing = ⊤
+IsOpened told schema.Failed = ⊤
+IsOpened {S} told read = (source : S) × IsFresh (told source) × IsContent (told source).left read
 
--- it failed only where the count of faults rose
+-- it is missing only where the count of misses rose
+abbrev pub HasMiss : OpenerTold → OpenerTold → SchemaRead → Type 0
+HasMiss opener opener_now schema.Missing = Rose opener.misses opener_now.misses
+HasMiss opener opener_now read = opener_now.misses ≡ opener.misses
+
+-- it failed only where a count of faults rose
 abbrev pub HasFault : ℕ → ℕ → SchemaRead → Type 0
 HasFault faults faults_now schema.Failed = Rose faults faults_now
 HasFault faults faults_now read = faults_now ≡ faults

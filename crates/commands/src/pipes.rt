@@ -1,8 +1,7 @@
-ghost use Rattle.std.specs.Prelude.{◌≡◌, IsTrue, IsFalse, IfSome, IsNone, [], codes};
+ghost use Rattle.std.specs.Prelude.{◌≡◌, IsFalse, IsNone, [], codes};
 ghost use Rattle.std.specs.Option.{option_copied};
 ghost use Rattle.resource_schema.specs.Kinds.{notes};
-ghost use Rattle.commands.specs.declared.schemas.SchemaRead.{SchemaRead as Read};
-ghost use Rattle.commands.specs.Pipes.{is_pipe, path_of, status_of, line, schema_line, refused_status, Refuses, Pipes, PipesRead, IsReadBy};
+ghost use Rattle.commands.specs.Pipes.{is_pipe, path_of, status_of, line, schema_line, refusal_status, Refuses, Pipes, PipesRead, ends, PipesBy};
 
 use crate::connections::serve_connection;
 use crate::schemas::{SchemaRead, read_schema_file};
@@ -51,8 +50,8 @@ fn status_of(end: SessionEnd) -> u8
 }
 
 /// The exit status for a line that was written.
-fn refused(sent: Result<(), Failed>) -> u8
-    ensures { result ≡ refused_status sent }
+fn refusal_status(sent: Result<(), Failed>) -> u8
+    ensures { result ≡ refusal_status sent }
 {
     match sent {
         Ok(()) => 2,
@@ -62,30 +61,30 @@ fn refused(sent: Result<(), Failed>) -> u8
 
 /// Writes the line of a refusal: what is refused, and a text behind it.
 fn refuse<K: Sink>(what: &str, text: &str, sink: &mut K) -> u8
-    ensures { Refuses (line what.now text.now) (K.faults sink.old) (K.faults sink.new) (K.written sink.old) (K.written sink.new) result }
+    ensures { Refuses (line what.now text.now) (K.told sink.old) (K.told sink.new) result }
 {
     let begun = send_all(b"jsonapid: ", sink);
     let named = send_more(begun, what.as_bytes(), sink);
     let told = send_more(named, text.as_bytes(), sink);
     let ended = send_more(told, b"\n", sink);
-    refused(ended)
+    refusal_status(ended)
 }
 
 /// Writes the line of a schema's fault.
 fn refuse_schema<K: Sink>(place: &str, why: Why, sink: &mut K) -> u8
-    ensures { Refuses (schema_line place.now why) (K.faults sink.old) (K.faults sink.new) (K.written sink.old) (K.written sink.new) result }
+    ensures { Refuses (schema_line place.now why) (K.told sink.old) (K.told sink.new) result }
 {
     let begun = send_all(b"jsonapid: schema ", sink);
     let placed = send_more(begun, place.as_bytes(), sink);
     let parted = send_more(placed, b" ", sink);
     let told = send_more(parted, word_of(why).as_bytes(), sink);
     let ended = send_more(told, b"\n", sink);
-    refused(ended)
+    refusal_status(ended)
 }
 
 /// Serves one connection on a store of its own over a schema.
 fn pipe_on<S: Source, K: Sink>(alloc: Global, schema: &Schema, source: &mut S, sink: &mut K) -> u8
-    ensures { Pipes schema.now (S.faults source.old) (S.faults source.new) (K.faults sink.old) (K.faults sink.new) (S.taken source.old) (S.taken source.new) (S.left source.old) (S.left source.new) (K.written sink.old) (K.written sink.new) result }
+    ensures { Pipes schema.now (S.told source.old) (S.told source.new) (K.told sink.old) (K.told sink.new) result }
 {
     match schema.copy(alloc) {
         Ok(own) => {
@@ -100,7 +99,7 @@ fn pipe_on<S: Source, K: Sink>(alloc: Global, schema: &Schema, source: &mut S, s
 
 /// Serves one connection over the built-in schema.
 fn pipe_notes<S: Source, K: Sink>(alloc: Global, source: &mut S, sink: &mut K) -> u8
-    ensures { Pipes notes (S.faults source.old) (S.faults source.new) (K.faults sink.old) (K.faults sink.new) (S.taken source.old) (S.taken source.new) (S.left source.old) (S.left source.new) (K.written sink.old) (K.written sink.new) result }
+    ensures { Pipes notes (S.told source.old) (S.told source.new) (K.told sink.old) (K.told sink.new) result }
 {
     match Schema::notes(alloc) {
         Ok(schema) => pipe_on(alloc, &schema, source, sink),
@@ -116,7 +115,7 @@ fn pipe_read<S: Source, K: Sink>(
     source: &mut S,
     sink: &mut K,
 ) -> u8
-    ensures { PipesRead path.now read (S.faults source.old) (S.faults source.new) (K.faults sink.old) (K.faults sink.new) (S.taken source.old) (S.taken source.new) (S.left source.old) (S.left source.new) (K.written sink.old) (K.written sink.new) result }
+    ensures { PipesRead path.now read (S.told source.old) (S.told source.new) (K.told sink.old) (K.told sink.new) result }
 {
     match read {
         SchemaRead::Good(schema) => pipe_on(alloc, &schema, source, sink),
@@ -149,11 +148,7 @@ pub fn pipe_command<S: Source, K: Sink, O: Opener>(
     source: &mut S,
     sink: &mut K,
 ) -> u8
-    ensures notes { IsTrue (is_pipe words.now) → Pipes notes (S.faults source.old) (S.faults source.new) (K.faults sink.old) (K.faults sink.new) (S.taken source.old) (S.taken source.new) (S.left source.old) (S.left source.new) (K.written sink.old) (K.written sink.new) result }
-    ensures path { IfSome (path_of words.now) (λ path. (read : Read)
-        × IsReadBy (O.files opener.old) (O.misses opener.old) (O.misses opener.new) (O.faults opener.old) (O.faults opener.new) path read
-        × PipesRead path read (S.faults source.old) (S.faults source.new) (K.faults sink.old) (K.faults sink.new) (S.taken source.old) (S.taken source.new) (S.left source.old) (S.left source.new) (K.written sink.old) (K.written sink.new) result) }
-    ensures refuses { IsFalse (is_pipe words.now) → IsNone (path_of words.now) → Refuses (line (codes "words") []) (K.faults sink.old) (K.faults sink.new) (K.written sink.old) (K.written sink.new) result }
+    ensures pipes { PipesBy O.Src.told words.now (ends (S.told source.old) (K.told sink.old) (O.told opener.old)) (ends (S.told source.new) (K.told sink.new) (O.told opener.new)) result }
     ensures unread { IsFalse (is_pipe words.now) → IsNone (path_of words.now) → source.new ≡ source.old }
     ensures unasked { IsNone (path_of words.now) → opener.new ≡ opener.old }
 {

@@ -1,8 +1,6 @@
-ghost use Rattle.std.specs.Prelude.{◌≡◌, [], IsTrue, IsFalse, IfSome, IsNone, IsSome, codes};
-ghost use Rattle.resource_schema.specs.Kinds.{notes};
-ghost use Rattle.commands.specs.declared.schemas.SchemaRead.{SchemaRead as Read};
-ghost use Rattle.commands.specs.Notices.{notice_for, told_status, Tells};
-ghost use Rattle.commands.specs.Pipes.{is_pipe, path_of, line, Refuses, Pipes, PipesRead, IsReadBy};
+ghost use Rattle.std.specs.Prelude.{◌≡◌, IsFalse, IsNone, IsSome};
+ghost use Rattle.commands.specs.Notices.{notice_for, notice_status, Tells};
+ghost use Rattle.commands.specs.Pipes.{is_pipe, path_of, ends, CommandBy};
 
 use crate::notices::notice_for;
 use crate::pipes::pipe_command;
@@ -11,8 +9,8 @@ use outer_ends::{Failed, Opener, Sink, Source, send_all};
 use std::alloc::Global;
 
 /// The exit status for a notice that was sent.
-fn told(sent: Result<(), Failed>) -> u8
-    ensures { result ≡ told_status sent }
+fn notice_status(sent: Result<(), Failed>) -> u8
+    ensures { result ≡ notice_status sent }
 {
     match sent {
         Ok(()) => 0,
@@ -22,9 +20,9 @@ fn told(sent: Result<(), Failed>) -> u8
 
 /// Writes a notice.
 fn tell<K: Sink>(notice: &str, sink: &mut K) -> u8
-    ensures { Tells notice.now (K.faults sink.old) (K.faults sink.new) (K.written sink.old) (K.written sink.new) result }
+    ensures { Tells notice.now (K.told sink.old) (K.told sink.new) result }
 {
-    told(send_all(notice.as_bytes(), sink))
+    notice_status(send_all(notice.as_bytes(), sink))
 }
 
 /// The program, given the words behind its name: `--help` and `--version` alone write their notice, and touch nothing else; other
@@ -37,13 +35,8 @@ pub fn command<S: Source, K: Sink, O: Opener>(
     source: &mut S,
     sink: &mut K,
 ) -> u8
-    ensures notice { IfSome (notice_for words.now) (λ text. Tells text (K.faults sink.old) (K.faults sink.new) (K.written sink.old) (K.written sink.new) result) }
+    ensures runs { CommandBy O.Src.told words.now (ends (S.told source.old) (K.told sink.old) (O.told opener.old)) (ends (S.told source.new) (K.told sink.new) (O.told opener.new)) result }
     ensures still { IsSome (notice_for words.now) → (source.new ≡ source.old) × (opener.new ≡ opener.old) }
-    ensures notes { IsTrue (is_pipe words.now) → Pipes notes (S.faults source.old) (S.faults source.new) (K.faults sink.old) (K.faults sink.new) (S.taken source.old) (S.taken source.new) (S.left source.old) (S.left source.new) (K.written sink.old) (K.written sink.new) result }
-    ensures path { IfSome (path_of words.now) (λ path. (read : Read)
-        × IsReadBy (O.files opener.old) (O.misses opener.old) (O.misses opener.new) (O.faults opener.old) (O.faults opener.new) path read
-        × PipesRead path read (S.faults source.old) (S.faults source.new) (K.faults sink.old) (K.faults sink.new) (S.taken source.old) (S.taken source.new) (S.left source.old) (S.left source.new) (K.written sink.old) (K.written sink.new) result) }
-    ensures refuses { IsNone (notice_for words.now) → IsFalse (is_pipe words.now) → IsNone (path_of words.now) → Refuses (line (codes "words") []) (K.faults sink.old) (K.faults sink.new) (K.written sink.old) (K.written sink.new) result }
     ensures unread { IsFalse (is_pipe words.now) → IsNone (path_of words.now) → source.new ≡ source.old }
     ensures unasked { IsNone (path_of words.now) → opener.new ≡ opener.old }
 {

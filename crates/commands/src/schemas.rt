@@ -4,7 +4,7 @@ ghost use Rattle.resource_schema.specs.declared.faults.SchemaFault.{SchemaFault}
 ghost use Rattle.resource_schema.specs.declared.faults.Why.TheVariants as why;
 ghost use Rattle.request_model.specs.SchemaFile.{schema_of_text, fault as fault_at};
 ghost use Rattle.schema_file.specs.Finds.{Finds};
-ghost use Rattle.commands.specs.SchemaFiles.{IsRead, IsPiece, IsPieceCause, IsParsed, IsContent, IsFound, HasMiss, HasFault};
+ghost use Rattle.commands.specs.SchemaFiles.{IsRead, IsPiece, IsPieceCause, IsParsed, IsContent, IsFound, IsOpened, HasMiss, HasFault};
 
 use ident_rules::{NoMemory, Text};
 use json_forms::parse;
@@ -14,7 +14,7 @@ use schema_file::{SchemaEnd, read_schema};
 use std::alloc::Global;
 
 /// The most bytes of a schema file.
-const FILE_LIMIT: usize = 1_048_576;
+pub const SCHEMA_FILE_LIMIT: usize = 1_048_576;
 
 /// What a source gave.
 #[derive(Drop)]
@@ -66,8 +66,8 @@ enum Piece {
 
 /// Reads some bytes behind those that were read.
 fn read_piece<S: Source>(source: &mut S, bytes: &mut Vec<u8>) -> Piece
-    ensures faults { IsPieceCause (S.faults source.old) (S.faults source.new) result }
-    ensures takes { IsPiece (S.left source.old) (S.left source.new) bytes.old.items bytes.new.items result }
+    ensures faults { IsPieceCause (S.told source.old) (S.told source.new) result }
+    ensures takes { IsPiece (S.told source.old) (S.told source.new) bytes.old.items bytes.new.items result }
 {
     let mut room = [0; 4096];
     match source.read(&mut room) {
@@ -82,10 +82,10 @@ fn read_piece<S: Source>(source: &mut S, bytes: &mut Vec<u8>) -> Piece
 
 /// All bytes of a source, where they are not too many.
 fn read_all<S: Source>(alloc: Global, source: &mut S) -> FileBytes
-    ensures { IsRead (S.left source.old) (S.faults source.old) (S.faults source.new) result }
+    ensures { IsRead (S.told source.old) (S.told source.new) result }
 {
     let mut bytes = Vec::new(alloc);
-    'reading: while bytes.len() <= FILE_LIMIT {
+    'reading: while bytes.len() <= SCHEMA_FILE_LIMIT {
         match read_piece(source, &mut bytes) {
             Piece::End => return FileBytes::Whole(bytes),
             Piece::More => (),
@@ -133,8 +133,8 @@ fn schema_or_fault(read: Result<Schema, SchemaEnd>) -> SchemaRead
 
 /// What a schema file came to that is open.
 fn read_opened<S: Source>(alloc: Global, source: &mut S) -> SchemaRead
-    ensures faults { HasFault (S.faults source.old) (S.faults source.new) result }
-    ensures content { IsContent (S.left source.old) result }
+    ensures faults { HasFault (S.told source.old).faults (S.told source.new).faults result }
+    ensures content { IsContent (S.told source.old).left result }
 {
     match read_all(alloc, source) {
         FileBytes::Whole(bytes) => schema_in(alloc, &bytes),
@@ -149,10 +149,11 @@ fn read_opened<S: Source>(alloc: Global, source: &mut S) -> SchemaRead
 ///
 /// `Missing` is answered only where the opener's count of misses rose, and `Failed` only where its count of faults did.
 pub fn read_schema_file<O: Opener>(alloc: Global, path: &str, opener: &mut O) -> SchemaRead
-    ensures misses { HasMiss (O.misses opener.old) (O.misses opener.new) result }
-    ensures faults { HasFault (O.faults opener.old) (O.faults opener.new) result }
-    ensures files { O.files opener.new ≡ O.files opener.old }
-    ensures found { IsFound (O.files opener.old) path.now result }
+    ensures misses { HasMiss (O.told opener.old) (O.told opener.new) result }
+    ensures faults { HasFault (O.told opener.old).faults (O.told opener.new).faults result }
+    ensures files { (O.told opener.new).files ≡ (O.told opener.old).files }
+    ensures found { IsFound (O.told opener.old).files path.now result }
+    ensures opened { IsOpened O.Src.told result }
 {
     match opener.open(path) {
         Err(OpenEnd::Missing) => SchemaRead::Missing,

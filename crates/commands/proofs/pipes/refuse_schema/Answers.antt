@@ -6,14 +6,16 @@ use Rattle.commands.proofs.pipes.refuse_schema.Goals as goal
 
 pub returns : goal.returns
 returns g c =
-    let old = g.K.Sink.written c.args.sink.now in
-    let Told : List ℕ → Type 0 = λ text. Refuses text (g.K.Sink.faults c.args.sink.now) (g.K.Sink.faults c.send_more-ended.new.sink) old (g.K.Sink.written c.send_more-ended.new.sink) c.refused.result in
+    let old = g.K.Sink.told c.args.sink.now in
+    let now = g.K.Sink.told c.send_more-ended.new.sink in
+    let Told : List ℕ → Type 0 = λ text. Refuses text old now c.refusal_status.result in
     let begun = c.send_all-begun.ensures.sends in
     let placed = c.send_more-placed.ensures.sends old _ begun in
     let parted = c.send_more-parted.ensures.sends old _ placed in
     let told = c.send_more-told.ensures.sends old _ parted in
     let ended = c.send_more-ended.ensures.sends old _ told in
-    let refused = refuses_by _ _ _ old _ _ _ ended (c.send_more-ended.ensures.cause _ (c.send_more-told.ensures.cause _ (c.send_more-parted.ensures.cause _ (c.send_more-placed.ensures.cause _ c.send_all-begun.ensures.cause)))) c.refused.ensures in
+    let cause = c.send_more-ended.ensures.cause _ (c.send_more-told.ensures.cause _ (c.send_more-parted.ensures.cause _ (c.send_more-placed.ensures.cause _ c.send_all-begun.ensures.cause))) in
+    let refused = refuses_by _ old now _ _ ended cause c.refusal_status.ensures in
     let why : c.as_bytes-2.result.now ≡ word_of c.args.why = c.as_bytes-2.ensures.value ∙ c.word_of.ensures in
     let place : c.as_bytes.result.now ≡ c.args.place.now = c.as_bytes.ensures.value in
     let worded = subst (λ (w : List ℕ). Told ((((codes "jsonapid: schema " ++ c.as_bytes.result.now) ++ codes " ") ++ w) ++ 10 ∷ [])) why refused in

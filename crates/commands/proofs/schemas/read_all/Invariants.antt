@@ -4,7 +4,10 @@ use Rattle.std.specs.Io.KnownBytes.{Consumes}
 use Rattle.commands.proofs.schemas.read_all.Given as goal
 
 abbrev pub invariant-reading : goal.invariant-reading
-invariant-reading g l = (g.S.Source.faults l.source ≡ g.S.Source.faults l.fn.source) × Consumes (g.S.Source.left l.fn.source) (g.S.Source.left l.source) l.bytes.items
+invariant-reading g l =
+    let before = g.S.Source.told l.fn.source in
+    let now = g.S.Source.told l.source in
+    (now.faults ≡ before.faults) × Consumes before.left now.left l.bytes.items
 
 abbrev pub decreases-reading : goal.decreases-reading
 decreases-reading g l = 1048577 - vec_len l.bytes
