@@ -1,3 +1,3 @@
-mod PipeLaws
+mod Unworn
 mod Refusals
 mod OneOutput

@@ -3,7 +3,7 @@ ghost use Rattle.std.specs.Option.{option_copied};
 ghost use Rattle.resource_schema.specs.Kinds.{notes};
 ghost use Rattle.commands.specs.Pipes.{is_pipe, path_of, status_of, line, schema_line, refusal_status, Refuses, Pipes, PipesRead, ends, PipesBy};
 
-use crate::connections::serve_connection;
+use crate::connections::serve_counted;
 use crate::schemas::{SchemaRead, read_schema_file};
 use http_messages::SessionEnd;
 use ident_rules::{NoMemory, Text};
@@ -90,8 +90,8 @@ fn pipe_on<S: Source, K: Sink>(alloc: Global, schema: &Schema, source: &mut S, s
         Ok(own) => {
             let mut desk = MemoryDesk::new(alloc, own);
             let limits = Limits::standard();
-            let end = serve_connection(alloc, schema, limits, source, sink, &mut desk);
-            status_of(end)
+            let driven = serve_counted(alloc, schema, limits, source, sink, &mut desk);
+            status_of(driven.end)
         }
         Err(NoMemory) => 5,
     }
