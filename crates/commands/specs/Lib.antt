@@ -1,3 +1,4 @@
 pub mod Notices
 pub mod SchemaFiles
 pub mod Pipes
+pub mod Outputs
