@@ -67,6 +67,7 @@ def measured(name):
         gate = ["rt", "ci", name]
         tests, passed = 0, True
         if without_tests(crate):
+            subprocess.run(["rt", "fmt"], cwd=crate, check=True, stdout=subprocess.DEVNULL)
             proof, passed = spent(gate, room)
             shutil.rmtree(crate)
             shutil.copytree(os.path.join(TOP, "crates", name), crate, ignore=shutil.ignore_patterns("out", "must-fail"))
