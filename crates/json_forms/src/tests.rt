@@ -1,9 +1,11 @@
-use crate::{escape_pointer, int_of, member, parse, render, text_of};
+use crate::{escape_pointer, parse, render};
+use ident_rules::NoMemory;
 use serde_json::json;
 use std::alloc::Global;
+use std::test::Fail;
 
-/// Many opening brackets, and as many closing ones.
-fn nested(alloc: Global, depth: usize) -> Result<Vec<u8>, std::alloc::AllocError> {
+// So many opening brackets, and as many closing ones.
+fn nested(alloc: Global, depth: usize) -> Result<Vec<u8>, NoMemory> {
     let mut text = Vec::new(alloc);
     for _ in 0..depth {
         text.push(b'[')?;
@@ -14,38 +16,19 @@ fn nested(alloc: Global, depth: usize) -> Result<Vec<u8>, std::alloc::AllocError
     Ok(text)
 }
 
-#[test]
-fn reads_members(rt: HostRuntime) {
-    let text = " { \"type\" : \"people\", \"n\" : -5, \"id\" : \"1\", \"id\" : \"7\" } ";
-    let Ok(Some(value)) = parse(rt.alloc(), text.as_bytes()) else {
-        assert!(rt; false, "no value");
-        return;
-    };
-    assert_eq!(rt; member(&value, "id").and_then(text_of), Some("7"));
-    assert_eq!(rt; member(&value, "n").and_then(int_of), Some(-5));
-    assert!(rt; member(&value, "lid").is_none());
-}
-
-#[test]
-fn writes_in_byte_order(rt: HostRuntime) -> Result<(), std::alloc::AllocError> {
-    let value = json!(in rt.alloc(); { "type": "people", "id": ["7", null, -1] })?;
-    match render(rt.alloc(), &value) {
-        Ok(bytes) => assert_eq!(rt;
-            bytes.as_slice(),
-            b"{\"id\":[\"7\",null,-1],\"type\":\"people\"}".as_slice()
-        ),
-        Err(_) => assert!(rt; false, "no text"),
+// The first text that is read as JSON and is none, or the other way round.
+fn first_misread(alloc: Global, rows: &[(&[u8], bool)]) -> Result<Option<usize>, NoMemory> {
+    for (row, (bytes, is_json)) in rows.iter().enumerate() {
+        if parse(alloc, bytes)?.is_some() != *is_json {
+            return Ok(Some(row));
+        }
     }
-    Ok(())
+    Ok(None)
 }
 
 #[test]
-fn knows_json(rt: HostRuntime) -> Result<(), std::alloc::AllocError> {
-    let alloc = rt.alloc();
-    let deepest = nested(alloc, 127)?;
-    let too_deep = nested(alloc, 128)?;
-    let long = nested(alloc, 40000)?;
-    let rows: [(&[u8], bool); 15] = [
+fn knows_json(rt: HostRuntime) -> Result<(), Fail> {
+    let rows: [(&[u8], bool); 12] = [
         (b"null", true),
         (b"\xef\xbb\xbfnull", false),
         (b"\t[1, 2.5e3, \"\\u00e9\"]\r\n", true),
@@ -58,30 +41,34 @@ fn knows_json(rt: HostRuntime) -> Result<(), std::alloc::AllocError> {
         (b"\"\\ud800\"", false),
         (b"\"\\ud83d\\ude00\"", true),
         (b"1e400", false),
-        (deepest.as_slice(), true),
-        (too_deep.as_slice(), false),
-        (long.as_slice(), false),
     ];
-    for (at, (bytes, is_json)) in rows.iter().enumerate() {
-        match parse(alloc, bytes) {
-            Ok(value) => assert_eq!(rt; value.is_some(), *is_json, "row {at}"),
-            Err(_) => assert!(rt; false, "no memory at row {at}"),
-        }
-    }
+    let wrong = first_misread(rt.alloc(), rows.as_slice())?;
+    assert_eq!(rt; wrong, None);
+    Ok(())
+}
+
+// Whether so many nested arrays are read.
+fn is_read(alloc: Global, depth: usize) -> Result<bool, NoMemory> {
+    let text = nested(alloc, depth)?;
+    Ok(parse(alloc, text.as_slice())?.is_some())
+}
+
+#[test]
+fn reads_to_a_depth(rt: HostRuntime) -> Result<(), Fail> {
+    let alloc = rt.alloc();
+    assert!(rt; is_read(alloc, 127)?);
+    assert!(rt; !is_read(alloc, 128)?);
+    assert!(rt; !is_read(alloc, 40_000)?);
     Ok(())
 }
 
 #[test]
-fn escapes_names(rt: HostRuntime) {
-    for (name, want) in [
-        ("title", "title"),
-        ("a~/b", "a~0~1b"),
-        ("~1", "~01"),
-        ("\u{e9}/", "\u{e9}~1"),
-    ] {
-        match escape_pointer(rt.alloc(), name) {
-            Ok(text) => assert_eq!(rt; text.as_str(), want),
-            Err(_) => assert!(rt; false, "no memory at {name}"),
-        }
-    }
+fn writes_with_ample_memory(rt: HostRuntime) -> Result<(), Fail> {
+    let value = json!(in rt.alloc(); { "type": "people", "id": ["7", null, -1] })?;
+    let bytes = render(rt.alloc(), &value)?;
+    let text = b"{\"id\":[\"7\",null,-1],\"type\":\"people\"}".as_slice();
+    assert_eq!(rt; bytes.as_slice(), text);
+    let name = escape_pointer(rt.alloc(), "\u{e9}a~/b")?;
+    assert_eq!(rt; name.as_str(), "\u{e9}a~0~1b");
+    Ok(())
 }

@@ -8,7 +8,7 @@ use Rattle.world_cells.specs.World.{World, has_row}
 use Rattle.task_forms.specs.declared.operations.Member.{Member}
 use Rattle.error_objects.specs.declared.codes.Code.TheVariants as code
 use Rattle.error_objects.specs.Refusals.{at_pointer}
-use Rattle.store_model.specs.Change.{Lids, key_of, refuse_named, refuse_member, member_pointer, name_pointer, when}
+use Rattle.store_model.specs.Change.{Lids, key_of, refuse_named, refuse_member, pointer_of_member, name_pointer, when}
 use Rattle.row_change.specs.declared.places.MayLinkTo.{MayLinkTo}
 use Rattle.row_change.specs.declared.places.MayLinkTo.TheVariants as there
 use Rattle.row_change.specs.Places.{may_link}
@@ -27,21 +27,21 @@ there_own t own now key result is other h = subst (λ (x : MayLinkTo). IfOk resu
 -- ---- one member
 
 pub member_unbound : (test : Key → Bool) (lids : Lids) (linkage : List ℕ) (m : Member) → key_of lids m.named ≡ None
-    → refuse_member test lids linkage m ≡ Some (at_pointer code.UnknownLid (member_pointer linkage m ++ name_pointer m.named))
-member_unbound test lids linkage m is = ap (refuse_named test (member_pointer linkage m ++ name_pointer m.named)) is
+    → refuse_member test lids linkage m ≡ Some (at_pointer code.UnknownLid (pointer_of_member linkage m ++ name_pointer m.named))
+member_unbound test lids linkage m is = ap (refuse_named test (pointer_of_member linkage m ++ name_pointer m.named)) is
 
 judged : (test : Key → Bool) (lids : Lids) (linkage : List ℕ) (m : Member) (key : Key) (b : Bool) → key_of lids m.named ≡ Some key → b ≡ test key
-    → refuse_member test lids linkage m ≡ when (not b) (at_pointer code.RelatedNotFound (member_pointer linkage m ++ name_pointer m.named))
+    → refuse_member test lids linkage m ≡ when (not b) (at_pointer code.RelatedNotFound (pointer_of_member linkage m ++ name_pointer m.named))
 judged test lids linkage m key b is tested =
-    ap (refuse_named test (member_pointer linkage m ++ name_pointer m.named)) is
-    ∙ ap (λ x. when (not x) (at_pointer code.RelatedNotFound (member_pointer linkage m ++ name_pointer m.named))) (sym tested)
+    ap (refuse_named test (pointer_of_member linkage m ++ name_pointer m.named)) is
+    ∙ ap (λ x. when (not x) (at_pointer code.RelatedNotFound (pointer_of_member linkage m ++ name_pointer m.named))) (sym tested)
 
 pub member_there : (test : Key → Bool) (lids : Lids) (linkage : List ℕ) (m : Member) (key : Key) (b : Bool) → key_of lids m.named ≡ Some key → b ≡ test key → b ≡ true
     → refuse_member test lids linkage m ≡ None
 member_there test lids linkage m key b is tested passes =
-    judged test lids linkage m key b is tested ∙ ap (λ x. when (not x) (at_pointer code.RelatedNotFound (member_pointer linkage m ++ name_pointer m.named))) passes
+    judged test lids linkage m key b is tested ∙ ap (λ x. when (not x) (at_pointer code.RelatedNotFound (pointer_of_member linkage m ++ name_pointer m.named))) passes
 
 pub member_missing : (test : Key → Bool) (lids : Lids) (linkage : List ℕ) (m : Member) (key : Key) (b : Bool) → key_of lids m.named ≡ Some key → b ≡ test key → b ≡ false
-    → refuse_member test lids linkage m ≡ Some (at_pointer code.RelatedNotFound (member_pointer linkage m ++ name_pointer m.named))
+    → refuse_member test lids linkage m ≡ Some (at_pointer code.RelatedNotFound (pointer_of_member linkage m ++ name_pointer m.named))
 member_missing test lids linkage m key b is tested missing =
-    judged test lids linkage m key b is tested ∙ ap (λ x. when (not x) (at_pointer code.RelatedNotFound (member_pointer linkage m ++ name_pointer m.named))) missing
+    judged test lids linkage m key b is tested ∙ ap (λ x. when (not x) (at_pointer code.RelatedNotFound (pointer_of_member linkage m ++ name_pointer m.named))) missing

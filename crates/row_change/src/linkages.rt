@@ -2,7 +2,7 @@ ghost use Rattle.std.specs.Prelude.{◌≡◌, [], ◌∷◌, ◌++◌, IfOk, On
 ghost use Rattle.std.specs.List.{list_any};
 ghost use Rattle.resource_schema.specs.declared.schema.Schema.{Schema as Types};
 ghost use Rattle.error_objects.specs.Refusals.{at_pointer};
-ghost use Rattle.store_model.specs.Change.{member_ids, append_new, member_pointer, name_pointer};
+ghost use Rattle.store_model.specs.Change.{member_ids, append_new, pointer_of_member, name_pointer};
 ghost use Rattle.store_model.specs.Run.{refusal_under};
 ghost use Rattle.store_model.specs.Valid.{same_id};
 ghost use Rattle.store_model.specs.Reach.{is_row_in, member_keys};
@@ -121,7 +121,7 @@ fn refuse_member(
     linkage: &str,
     member: &Member,
 ) -> Result<Refusal, NoMemory>
-    ensures { IfOk result (λ r. r ≡ refusal_under step.now.pointer.now (at_pointer code (member_pointer linkage.now member.now ++ name_pointer member.now.named))) }
+    ensures { IfOk result (λ r. r ≡ refusal_under step.now.pointer.now (at_pointer code (pointer_of_member linkage.now member.now ++ name_pointer member.now.named))) }
 {
     let pointer = member_pointer(step.alloc, linkage, member)?;
     refuse_part(step, code, pointer.as_str(), name_pointer(&member.named))
@@ -129,7 +129,7 @@ fn refuse_member(
 
 /// The pointer of a member, in that of its linkage.
 fn member_pointer(alloc: Global, linkage: &str, member: &Member) -> Result<Text, NoMemory>
-    ensures { IfOk result (λ t. t ≡ member_pointer linkage.now member.now) }
+    ensures { IfOk result (λ t. t ≡ pointer_of_member linkage.now member.now) }
 {
     match member.index {
         Some(index) => {
