@@ -1,20 +1,17 @@
 -- A change of one link: what is told of the ids behind it, and of the operation.
-use Rattle.std.proofs.Common.{◌≡◌, ℕ, List, [], ◌∷◌, ◌++◌, Bool, true, refl, sym, ap, subst, ◌∙◌, Option, Some, None, Result, Err, append-nil}
-use Rattle.std.specs.Prelude.{codes, map, IsTrue, IsErr, IsErrAnd}
+use Rattle.std.proofs.Common.{◌≡◌, ℕ, List, [], ◌∷◌, ◌++◌, true, refl, sym, ap, subst, ◌∙◌, Option, Some, None, Result, append-nil}
+use Rattle.std.specs.Prelude.{codes, map, IsTrue}
 use Rattle.resource_schema.specs.declared.schema.Schema.{Schema}
 use Rattle.world_cells.specs.declared.keys.CellKey.{CellKey}
-use Rattle.world_cells.specs.declared.rows.Row.{Row}
-use Rattle.world_cells.specs.World.{World, has_row, ids_of, link_at}
+use Rattle.world_cells.specs.World.{World}
 use Rattle.error_objects.specs.declared.refusals.Refusal.{Refusal}
 use Rattle.task_forms.specs.declared.operations.Member.{Member}
 use Rattle.task_forms.specs.declared.operations.Who.{Who}
-use Rattle.task_forms.specs.declared.operations.Operation.{Operation}
 use Rattle.ident_rules.specs.declared.key.Key.{Key}
 use Rattle.ident_rules.specs.declared.step_errors.StepError.{StepError}
-use Rattle.store_model.specs.Change.{Lids, first_of, refused, done, refuse_target, refuse_member, refuse_linkage, named_row, named_ids, member_ids, append_new, on_row, on_link}
+use Rattle.store_model.specs.Change.{Lids, first_of, refused, done, refuse_target, refuse_member, refuse_linkage, named_ids, member_ids, append_new, on_row, on_link}
 use Rattle.store_model.specs.Reach.{is_row_in, target_keys, reach_operation}
 use Rattle.trial_steps.specs.Steps.{RefusesOr}
-use Rattle.trial_steps.specs.StepLaws.{row_in_left}
 use Rattle.row_change.specs.declared.places.MayLinkTo.{MayLinkTo}
 use Rattle.row_change.specs.declared.linkages.Linkage.{Linkage}
 use Rattle.row_change.specs.declared.members.LinkChange.{LinkChange}

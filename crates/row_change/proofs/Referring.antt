@@ -1,14 +1,13 @@
 -- The first links that lead to a key say whether another row links to it.
 use Rattle.std.proofs.Common.{◌≡◌, ℕ, ◌-◌, ◌^◌, ◌<◌, ◌≤◌, List, [], ◌∷◌, Bool, true, false, refl, sym, ap, subst, ◌∙◌, Some, None, Option, Result, Ok, Err, length, arith, inl, inr}
-use Rattle.std.specs.Prelude.{◌&&◌, ◌||◌, not, IsTrue, IsFalse, is_some, if◌then◌else◌}
-use Rattle.std.specs.Option.{option_map_or, option_map}
+use Rattle.std.specs.Prelude.{◌&&◌, ◌||◌, not, IsTrue, is_some, if◌then◌else◌}
+use Rattle.std.specs.Option.{option_map_or}
 use Rattle.std.specs.List.{list_any, range_with_len}
 use Rattle.std.specs.Borrow.{Bor}
 use Rattle.std.specs.declared.cmp.Ordering.{Ordering}
 use Rattle.std.specs.declared.cmp.Ordering.TheVariants.{Less, Equal, Greater}
 use Rattle.std.specs.Ordering.{is_eq, is_lt, ordering_then, ordering_reverse, nat_cmp}
-use Rattle.std.specs.Cmp.{tied_itself, ranked, eq_by_cmp_equiv}
-use Rattle.std.proofs.lemmas.List.Folds.{list_any-append}
+use Rattle.std.specs.Cmp.{tied_itself, ranked}
 use Rattle.std.proofs.lemmas.Bool.{or_left}
 use Rattle.ident_rules.specs.declared.key.Key.{Key}
 use Rattle.ident_rules.specs.declared.memory.NoMemory.{NoMemory}
@@ -20,12 +19,10 @@ use Rattle.world_cells.specs.declared.keys.CellKey.{CellKey}
 use Rattle.world_cells.specs.declared.keys.CellKey.TheVariants as cell_key
 use Rattle.world_cells.specs.declared.cells.Cell.{Cell}
 use Rattle.world_cells.specs.declared.cells.Cell.TheVariants as cell
-use Rattle.world_cells.specs.declared.spans.Span.{Span}
 use Rattle.world_cells.specs.declared.spans.Span.TheVariants as span
-use Rattle.world_cells.specs.declared.sets.ReadSet.{ReadSet}
-use Rattle.world_cells.specs.CellOrder.{cell_key_cmp, same_cell_key}
+use Rattle.world_cells.specs.CellOrder.{cell_key_cmp}
 use Rattle.world_cells.specs.Lists.{IsIn}
-use Rattle.world_cells.specs.Reads.{Cells, link_cmp, in_span, in_part, covers, IsFirstIn}
+use Rattle.world_cells.specs.Reads.{Cells, link_cmp, in_span, IsFirstIn}
 use Rattle.world_cells.specs.World.{World, row_at, cell_at, links_to}
 use Rattle.store_model.specs.LinkLaws.{passes, find_in, find_of_in, link_somewhere}
 use Rattle.store_model.specs.Valid.{IsValid}

@@ -2,7 +2,10 @@
 use Rattle.std.specs.Prelude.{◌≡◌, ℕ, ◌+◌, ◌==◌, ◌&&◌, Bool, List, [], ◌∷◌, codes, is_some, is_none, Option, Some, None}
 use Rattle.world_cells.specs.declared.keys.CellKey.{CellKey}
 use Rattle.world_cells.specs.declared.rows.Row.{Row}
-use Rattle.world_cells.specs.World.{World, has_row, next_id}
+use Rattle.resource_schema.specs.declared.schema.Schema.{Schema}
+use Rattle.world_cells.specs.declared.sets.Written.{Written}
+use Rattle.world_cells.specs.Reads.{Leads}
+use Rattle.world_cells.specs.World.{World, cell_at, has_row, next_id}
 use Rattle.error_objects.specs.declared.codes.Code.TheVariants as code
 use Rattle.error_objects.specs.declared.refusals.Refusal.{Refusal}
 use Rattle.error_objects.specs.Refusals.{refusal, at_pointer}
@@ -39,3 +42,7 @@ with_counter w kind (Some number) = with_next w kind number
 -- and with a new row
 abbrev pub with_created : Row → Option ℕ → World → World
 with_created row next w = with_counter (with_row w row) row.key.kind next
+
+-- writes that lead to a world, valid or not, lead after the step to the world that is told
+abbrev pub LeadsAnywhere : (World → World) → List Written → List Written → Type 0
+LeadsAnywhere next before after = (schema : Schema) (w now : World) → Leads (cell_at schema w) before (cell_at schema now) → Leads (cell_at schema w) after (cell_at schema (next now))

@@ -1,16 +1,13 @@
 -- What an operation over a recorder says of every world that may stand behind its view.
-use Rattle.std.specs.Prelude.{◌≡◌, ℕ, ⊤, IsTrue, IsFalse, List, Option, Result, Ok, Err}
+use Rattle.std.specs.Prelude.{◌≡◌, ℕ, ⊤, List, Option, Result, Ok, Err}
 use Rattle.ident_rules.specs.declared.key.Key.{Key}
 use Rattle.resource_schema.specs.declared.schema.Schema.{Schema}
-use Rattle.world_cells.specs.declared.keys.CellKey.{CellKey}
-use Rattle.world_cells.specs.declared.sets.ReadSet.{ReadSet}
 use Rattle.world_cells.specs.World.{World, cell_at}
-use Rattle.world_cells.specs.Reads.{Cells, covers, AgreeOn, Leads}
+use Rattle.world_cells.specs.Reads.{Cells, Leads}
 use Rattle.error_objects.specs.declared.refusals.Refusal.{Refusal}
 use Rattle.error_objects.specs.declared.refusals.Read.{Read}
 use Rattle.error_objects.specs.declared.refusals.Read.TheVariants as read
 use Rattle.task_forms.specs.declared.operations.Operation.{Operation}
-use Rattle.store_model.specs.Valid.{IsValid}
 use Rattle.store_model.specs.Change.{Lids, Changed, apply}
 use Rattle.store_model.specs.Run.{refusal_under}
 use Rattle.store_model.specs.Reach.{reach_operation}

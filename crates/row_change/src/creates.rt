@@ -1,17 +1,14 @@
 ghost use Rattle.std.specs.Prelude.{◌≡◌, ℕ, List, if◌then◌else◌, IfOk, OnOk, IsFalse, [], Some, None};
-ghost use Rattle.resource_schema.specs.declared.schema.Schema.{Schema as Types};
 ghost use Rattle.resource_schema.specs.Kinds.{relationships_of};
 ghost use Rattle.error_objects.specs.Refusals.{refusal};
-ghost use Rattle.world_cells.specs.World.{World, cell_at};
-ghost use Rattle.world_cells.specs.Reads.{Leads};
 ghost use Rattle.store_model.specs.Change.{is_bound, bind, empty_links, with_row};
 ghost use Rattle.store_model.specs.Reach.{is_row_in, linked_keys};
 ghost use Rattle.view_reads.specs.Recording.{Follows};
-ghost use Rattle.trial_steps.specs.Steps.{LooksAt, Sees, RefusesOr, Tells, LeavesReads, LeadsOn};
+ghost use Rattle.trial_steps.specs.Steps.{LooksAt, Tells, LeavesReads, LeadsOn};
 ghost use Rattle.row_writes.specs.WritesBacks.{Replaces};
 ghost use Rattle.row_change.specs.Told.{TellsAt};
 ghost use Rattle.row_change.specs.Trial.{TellsChange, ReadsInReach, read_of};
-ghost use Rattle.row_change.specs.Creating.{refuse_id, is_looked_for, IsNewId, with_counter, with_created};
+ghost use Rattle.row_change.specs.Creating.{refuse_id, is_looked_for, IsNewId, with_counter, with_created, LeadsAnywhere};
 ghost use Rattle.row_change.specs.NewRows.{create_of, refuse_new, IsNewRow};
 
 use crate::finds::refuse_part;
@@ -131,7 +128,7 @@ fn server_id<V: View>(
     work: &mut Work,
 ) -> Result<(Id, Option<u64>), StepError<Refusal>>
     ensures looks { LooksAt (is_looked_for kind None) recorder.old recorder.new }
-    ensures sees { (schema : Types) (at : List ℕ) → Sees schema V.cells recorder.old recorder.new (λ now. RefusesOr at (refuse_id now kind None) (IsNewId now kind None) result) }
+    ensures sees { (at : List ℕ) → Tells at V.cells recorder.old recorder.new (λ schema now. refuse_id now kind None) (λ now. IsNewId now kind None) result }
 {
     let number = next_number(kind, recorder, work)?;
     if number >= LAST_NEXT_ID {
@@ -253,7 +250,7 @@ fn write_next<V: View>(
     recorder: &mut Recorder<V>,
 ) -> Result<(), NoMemory>
     ensures leaves { LeavesReads recorder.old recorder.new }
-    ensures leads { OnOk result ((schema : Types) (w now : World) → Leads (cell_at schema w) recorder.old.writes (cell_at schema now) → Leads (cell_at schema w) recorder.new.writes (cell_at schema (with_counter now kind next))) }
+    ensures leads { OnOk result (LeadsAnywhere (λ now. with_counter now kind next) recorder.old.writes recorder.new.writes) }
 {
     match next {
         Some(number) => recorder.put(CellKey::Counter(kind), Cell::Counter(number)),

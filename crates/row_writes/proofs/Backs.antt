@@ -10,7 +10,7 @@ use Rattle.std.specs.Cmp.Lexicographic.{pointwise, nat_list_eq_equiv}
 use Rattle.std.proofs.lemmas.List.{take-append-drop, take_more, take_all, length-drop}
 use Rattle.std.proofs.lemmas.List.Folds.{list_any_more, list_any-append}
 use Rattle.ident_rules.specs.declared.key.Key.{Key}
-use Rattle.ident_rules.specs.IdOrder.{id_cmp, id_cmp_ties, id_cmp-IsAntisymmetric, then_equal, id_is}
+use Rattle.ident_rules.specs.IdOrder.{id_cmp, id_cmp_ties, then_equal, id_is}
 use Rattle.ident_rules.specs.IdOrder.{is_equal}
 use Rattle.ident_rules.specs.Key.{key_cmp, key_cmp_total}
 use Rattle.world_cells.specs.declared.keys.CellKey.{CellKey}

@@ -2,12 +2,11 @@
 use Rattle.std.proofs.Common.{◌≡◌, ℕ, ◌≤◌, List, [], Bool, true, false, length, nat_lt, refl, sym, ap, ◌∙◌, Option, Some, None, arith}
 use Rattle.std.specs.Prelude.{cond, not, ◌&&◌, map, option_map}
 use Rattle.std.specs.List.{list_any}
-use Rattle.std.specs.Cmp.{eq_by_cmp_equiv}
 use Rattle.std.proofs.lemmas.Bool.{ltb-false}
 use Rattle.std.proofs.lemmas.List.{get_or_past}
 use Rattle.std.proofs.lemmas.Slice.Zip.{AllZip-long}
 use Rattle.ident_rules.specs.declared.key.Key.{Key}
-use Rattle.ident_rules.specs.Key.{same_key, key_cmp_total, key_is, turned_key}
+use Rattle.ident_rules.specs.Key.{same_key, key_is, turned_key}
 use Rattle.resource_schema.specs.declared.schema.Schema.{Schema}
 use Rattle.resource_schema.specs.Kinds.{relationships_of, target_of}
 use Rattle.world_cells.specs.declared.rows.Link.{Link}

@@ -1,4 +1,4 @@
-use Rattle.std.proofs.Common.{◌≡◌, ℕ, List, [], sym, ap, subst, ◌∙◌, Result, Option, None, Some, Ok, Err, true}
+use Rattle.std.proofs.Common.{◌≡◌, ℕ, List, [], sym, ap, subst, ◌∙◌, Result, Option, Ok, Err, true}
 use Rattle.std.specs.Prelude.{codes, map, not}
 use Rattle.std.specs.List.{filter, list_any}
 use Rattle.ident_rules.specs.declared.step_errors.StepError.{StepError}

@@ -1,6 +1,5 @@
-use Rattle.std.proofs.Common.{◌≡◌, ℕ, List, ap, ◌∙◌, None, Some, Option, Err, Ok}
+use Rattle.std.proofs.Common.{◌≡◌, ℕ, List, ap, ◌∙◌, None, Some, Err}
 use Rattle.world_cells.specs.declared.rows.Row.{Row}
-use Rattle.error_objects.specs.declared.refusals.Refusal.{Refusal}
 use Rattle.store_model.specs.Change.{refused, refuse_target, named_row, named_ids, member_ids, on_link}
 use Rattle.store_model.specs.Reach.{is_row_in, target_keys}
 use Rattle.trial_steps.specs.Steps.{RefusesOr}
