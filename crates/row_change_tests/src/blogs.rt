@@ -38,8 +38,8 @@ fn relationship(name: Name, many: bool, target: u32) -> Relationship
     Relationship { name, many, target }
 }
 
-// A title.
-fn attributes(alloc: Global) -> Result<List<Attribute>, NoMemory> {
+/// Articles with a title, an author and replies, which are articles; and people, whose ids clients give.
+pub fn blog(alloc: Global) -> Result<Schema, NoMemory> {
     let mut attributes = Vec::new(alloc);
     attributes.push(Attribute {
         name: name("title"),
@@ -47,25 +47,15 @@ fn attributes(alloc: Global) -> Result<List<Attribute>, NoMemory> {
         nullable: false,
         default: None,
     })?;
-    Ok(List::from_vec(attributes))
-}
-
-// An author, and replies, which are articles.
-fn relationships(alloc: Global) -> Result<List<Relationship>, NoMemory> {
     let mut relationships = Vec::new(alloc);
     relationships.push(relationship(name("author"), false, 1))?;
     relationships.push(relationship(name("replies"), true, 0))?;
-    Ok(List::from_vec(relationships))
-}
-
-/// Articles with a title, an author and replies; and people, whose ids clients give.
-pub fn blog(alloc: Global) -> Result<Schema, NoMemory> {
     let mut kinds = Vec::new(alloc);
     kinds.push(Kind {
         name: name("articles"),
         client_ids: false,
-        attributes: attributes(alloc)?,
-        relationships: relationships(alloc)?,
+        attributes: List::from_vec(attributes),
+        relationships: List::from_vec(relationships),
     })?;
     kinds.push(Kind {
         name: name("people"),
