@@ -1,0 +1,6 @@
+mod Histories
+mod Passing
+mod Keeping
+mod Opening
+mod Parting
+mod Dealing

@@ -1,0 +1,19 @@
+-- A lock as it is made, and its passes.
+use Rattle.std.specs.Prelude.{ℕ, zero, suc, ◌≡◌, List, [], ◌∷◌}
+use Rattle.atomic_table.specs.Seated.{TableId}
+use Rattle.history_lock.specs.declared.rule.Start.{Start}
+use Rattle.history_lock.specs.Views.{PassState, LockState, new_view}
+
+-- a pass that has one number alone, and has seen nothing
+abbrev pub new_pass : {E K : Type 0} → TableId → Start → K → ℕ → PassState E K
+new_pass name start k number = record { lock = name; view = new_view start k (number ∷ []); number = number }
+
+-- so many passes, from one number on
+abbrev pub passes_from : {E K : Type 0} → TableId → Start → K → ℕ → ℕ → List (PassState E K)
+passes_from name start k i zero = []
+passes_from name start k i (suc n) = new_pass name start k i ∷ passes_from name start k (suc i) n
+
+-- the lock begins so, and the i-th of its passes, from 0, has the number i alone
+pub record AreMade {E K : Type 0} (first passes : ℕ) (k : K) (lock : LockState) (made : List (PassState E K)) : Type 0 where
+  pub start : lock.start ≡ record { first = first; passes = passes }
+  pub each : made ≡ passes_from lock.name lock.start k 0 passes
