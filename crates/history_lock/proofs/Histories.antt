@@ -1,7 +1,7 @@
 -- Histories: prefixes, the longer of two of them, and the entries that numbers own.
 use Rattle.std.proofs.Common.{◌≡◌, ◌≢◌, ◌⊎◌, ℕ, zero, suc, ◌+◌, ◌≤◌, List, [], ◌∷◌, ◌++◌, length, Bool, true, false, true≢false, refl, sym, ap, ◌∙◌, subst, inl, inr, arith, append_assoc, length-append, append-nil}
 use Rattle.std.specs.Prelude.{if◌then◌else◌, ◌||◌, ◌==◌, All}
-use Rattle.std.proofs.lemmas.List.Elements.{All-head, All-tail}
+use Rattle.std.proofs.lemmas.List.Elements.{All-head, All-tail, All-cons, All-nil}
 use mathlib.Core.List.{IsPrefix}
 use Rattle.ident_rules.specs.Owned.{is_among, entries_by, entries_by-append}
 use Rattle.history_lock.specs.Views.{longer}
@@ -48,6 +48,11 @@ module _ {A : Type 0} where
         (r.1.0, ap (λ t. x ∷ t) r.1.1),
         (r.2.0, ap (λ h. h ∷ (ys ++ r.2.0)) (sym same) ∙ ap (λ t. x ∷ t) r.2.1),
       )
+
+module _ {A : Type 0} where
+  pub all_of : (P Q : A → Type 0) → ((x : A) → P x → Q x) → (l : List A) → All P l → All Q l
+  all_of P Q f [] a = All-nil Q
+  all_of P Q f (x ∷ xs) a = All-cons Q x xs (f x (All-head P x xs a)) (all_of P Q f xs (All-tail P x xs a))
 
 -- ---- numbers
 
@@ -102,6 +107,10 @@ module _ {E : Type 0} (by : E → ℕ) where
   pub none_behind : (ns : List ℕ) (seen rest log mine : List E) → seen ++ rest ≡ log → entries_by by ns seen ≡ mine → entries_by by ns log ≡ mine → entries_by by ns rest ≡ []
   none_behind ns seen rest log mine parts within whole =
       behind_none (entries_by by ns seen) (entries_by by ns rest) (sym (entries_by-append by ns seen rest) ∙ ap (entries_by by ns) parts ∙ whole ∙ sym within)
+
+  -- nothing of theirs behind a list
+  pub behind : (ns : List ℕ) (seen rest : List E) → entries_by by ns rest ≡ [] → entries_by by ns (seen ++ rest) ≡ entries_by by ns seen
+  behind ns seen rest none = entries_by-append by ns seen rest ∙ ap (λ l. entries_by by ns seen ++ l) none ∙ append-nil (entries_by by ns seen)
 
   -- between what has all entries and the whole, all entries are there
   pub between : (ns : List ℕ) (seen middle log mine : List E) → IsPrefix seen middle → IsPrefix middle log → entries_by by ns seen ≡ mine → entries_by by ns log ≡ mine

@@ -4,3 +4,6 @@ mod Keeping
 mod Opening
 mod Parting
 mod Dealing
+mod Joining
+mod Closing
+

@@ -132,3 +132,20 @@ module _ {T E K : Type 0} (stands : T → ℕ → List E → Type 0) (by : E →
       → Allows (IsKept stands by kind start) slots id me 0 (λ _. 0) (λ _. Opened kind me)
   opens_as start slots id me x some_pass zero_is is stands_for =
       subst (λ (y : ℕ × Me (Option T) (Knows E K)). Allows (IsKept stands by kind start) slots y.0 y.1 0 (λ _. 0) (λ _. Opened kind y.1)) (λ i. (sym zero_is i, sym is i)) (opens_it start slots x some_pass stands_for)
+
+  abbrev value_or : T → List (ℕ × Option T) → T
+  value_or x [] = x
+  value_or x ((n, None) ∷ slots) = x
+  value_or x ((n, Some y) ∷ slots) = y
+
+  held_one : (x y : T) → ◌≡◌ {A = List (ℕ × Option T)} ((0, Some x) ∷ []) ((0, Some y) ∷ []) → x ≡ y
+  held_one x y e = ap (value_or x) e
+
+  -- what the second of them comes to
+  pub opened_as : (start : Start) (me now : Me (Option T) (Knows E K)) (value : T) → me ≡ (fetched start, (0, Some value) ∷ []) → Opened kind me now
+      → now ≡ (new_view start (kind value) (numbers_from 0 start.passes), [])
+  opened_as start me now value is o =
+      let same : o.0 ≡ value = held_one o.0 value (sym o.1 ∙ ap (λ (m : Me (Option T) (Knows E K)). m.1) is) in
+      let view : now.0 ≡ new_view start (kind value) (numbers_from 0 start.passes) =
+          o.2 ∙ (λ i. record (is i).0 { holds = false; kind = Some (kind (same i)) }) in
+      λ i. (view i, o.3 i)

@@ -1,6 +1,7 @@
 -- A lock as it is made, and its passes.
-use Rattle.std.specs.Prelude.{ℕ, zero, suc, ◌≡◌, List, [], ◌∷◌}
+use Rattle.std.specs.Prelude.{ℕ, zero, suc, ◌≡◌, List, [], ◌∷◌, length, Option, Some}
 use Rattle.atomic_table.specs.Seated.{TableId}
+use Rattle.history_lock.specs.declared.rule.Knows.{Knows}
 use Rattle.history_lock.specs.declared.rule.Start.{Start}
 use Rattle.history_lock.specs.Views.{PassState, LockState, new_view}
 
@@ -17,3 +18,12 @@ passes_from name start k i (suc n) = new_pass name start k i ∷ passes_from nam
 pub record AreMade {E K : Type 0} (first passes : ℕ) (k : K) (lock : LockState) (made : List (PassState E K)) : Type 0 where
   pub start : lock.start ≡ record { first = first; passes = passes }
   pub each : made ≡ passes_from lock.name lock.start k 0 passes
+
+-- a closed lock leaves its value, which stands for what the pass of all numbers has seen; all of it is its own
+pub record Leaves {T E K : Type 0} (stands : T → ℕ → List E → Type 0) (kind : T → K) (view : Knows E K) (home : Option T) (count : ℕ) : Type 0 where
+  pub value : T
+  pub there : home ≡ Some value
+  pub stands_for : stands value view.first view.seen
+  pub has_kind : view.kind ≡ Some (kind value)
+  pub mine : view.mine ≡ view.seen
+  pub counted : count ≡ length view.seen

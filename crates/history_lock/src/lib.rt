@@ -6,6 +6,7 @@
 #![tactic(auto)]
 
 
+mod joins;
 mod lock;
 mod making;
 mod passes;
