@@ -1,12 +1,12 @@
 -- Where one pass has all numbers, the lock is free, and its value stands for what the pass has seen.
-use Rattle.std.proofs.Common.{◌≡◌, ◌⊎◌, ℕ, ◌+◌, ◌<◌, List, [], ◌∷◌, ◌++◌, length, Option, Some, None, Bool, true, false, refl, sym, ap, ◌∙◌, subst, ⊎_elim, append-nil}
+use Rattle.std.proofs.Common.{◌≡◌, ℕ, ◌+◌, ◌<◌, List, [], ◌∷◌, ◌++◌, length, Option, Some, true, false, sym, ap, ◌∙◌, subst, ⊎_elim, append-nil}
 use Rattle.std.specs.Prelude.{All}
 use Rattle.std.proofs.lemmas.List.Elements.{All-tail}
 use mathlib.Core.Option.{some, none}
 use lib.ListN.{get_elem?}
 use mathlib.Core.Option as m
 use Rattle.atomic_table.specs.Table.{State, Final, Seen}
-use Rattle.ident_rules.specs.Owned.{is_among, entries_by}
+use Rattle.ident_rules.specs.Owned.{is_among}
 use Rattle.history_lock.specs.declared.rule.Knows.{Knows}
 use Rattle.history_lock.specs.declared.rule.Start.{Start}
 use Rattle.history_lock.specs.Views.{is_idle}

@@ -1,9 +1,10 @@
 -- Histories: prefixes, the longer of two of them, and the entries that numbers own.
-use Rattle.std.proofs.Common.{◌≡◌, ◌≢◌, ◌⊎◌, ℕ, zero, suc, ◌+◌, ◌≤◌, List, [], ◌∷◌, ◌++◌, length, Bool, true, false, true≢false, refl, sym, ap, ◌∙◌, subst, inl, inr, arith, append_assoc, length-append, append-nil}
-use Rattle.std.specs.Prelude.{if◌then◌else◌, ◌||◌, ◌==◌, All}
+use Rattle.std.proofs.Common.{◌≡◌, ℕ, ◌+◌, List, [], ◌∷◌, ◌++◌, length, Bool, true, false, true≢false, refl, sym, ap, ◌∙◌, arith, append_assoc, length-append, append-nil}
+use Rattle.std.specs.Prelude.{if◌then◌else◌, ◌||◌, All}
 use Rattle.std.proofs.lemmas.List.Elements.{All-head, All-tail, All-cons, All-nil}
 use mathlib.Core.List.{IsPrefix}
 use Rattle.ident_rules.specs.Owned.{is_among, entries_by, entries_by-append}
+use Rattle.history_lock.specs.Numbers.{among_append}
 use Rattle.history_lock.specs.Views.{longer}
 
 pub off : false ≡ true → ⊥
@@ -54,37 +55,6 @@ module _ {A : Type 0} where
   all_of P Q f [] a = All-nil Q
   all_of P Q f (x ∷ xs) a = All-cons Q x xs (f x (All-head P x xs a)) (all_of P Q f xs (All-tail P x xs a))
 
--- ---- numbers
-
-or_assoc : (a b c : Bool) → (a || (b || c)) ≡ ((a || b) || c)
-or_assoc true b c = refl
-or_assoc false b c = refl
-
-pub among_append : (n : ℕ) (ns ms : List ℕ) → is_among n (ns ++ ms) ≡ (is_among n ns || is_among n ms)
-among_append n [] ms = refl
-among_append n (x ∷ xs) ms = ap (λ b. (n == x) || b) (among_append n xs ms) ∙ or_assoc (n == x) (is_among n xs) (is_among n ms)
-
-or_cases : (a b : Bool) → (a || b) ≡ true → (a ≡ true) ⊎ (b ≡ true)
-or_cases true b e = inl refl
-or_cases false b e = inr e
-
-or_left : (a b : Bool) → a ≡ true → (a || b) ≡ true
-or_left true b e = refl
-or_left false b e = absurd (off e)
-
-or_right : (a b : Bool) → b ≡ true → (a || b) ≡ true
-or_right true b e = refl
-or_right false b e = e
-
-pub among_either : (n : ℕ) (ns ms : List ℕ) → is_among n (ns ++ ms) ≡ true → (is_among n ns ≡ true) ⊎ (is_among n ms ≡ true)
-among_either n ns ms e = or_cases (is_among n ns) (is_among n ms) (sym (among_append n ns ms) ∙ e)
-
-pub among_left : (n : ℕ) (ns ms : List ℕ) → is_among n ns ≡ true → is_among n (ns ++ ms) ≡ true
-among_left n ns ms e = among_append n ns ms ∙ or_left (is_among n ns) (is_among n ms) e
-
-pub among_right : (n : ℕ) (ns ms : List ℕ) → is_among n ms ≡ true → is_among n (ns ++ ms) ≡ true
-among_right n ns ms e = among_append n ns ms ∙ or_right (is_among n ns) (is_among n ms) e
-
 -- ---- entries
 
 module _ {E : Type 0} (by : E → ℕ) where
@@ -119,7 +89,7 @@ module _ {E : Type 0} (by : E → ℕ) where
       let parts : seen ++ (p.0 ++ q.0) ≡ log = sym (append_assoc seen p.0 q.0) ∙ ap (λ l. l ++ q.0) p.1 ∙ q.1 in
       let none = both_none (entries_by by ns p.0) (entries_by by ns q.0) (sym (entries_by-append by ns p.0 q.0) ∙ none_behind ns seen (p.0 ++ q.0) log mine parts within whole) in
       let here : entries_by by ns middle ≡ mine =
-          ap (entries_by by ns) (sym p.1) ∙ entries_by-append by ns seen p.0 ∙ ap (λ l. entries_by by ns seen ++ l) none.0 ∙ append-nil (entries_by by ns seen) ∙ within in
+      ap (entries_by by ns) (sym p.1) ∙ entries_by-append by ns seen p.0 ∙ ap (λ l. entries_by by ns seen ++ l) none.0 ∙ append-nil (entries_by by ns seen) ∙ within in
       (here, whole ∙ sym here)
 
   -- of two lists of numbers

@@ -1,26 +1,25 @@
 -- To make one pass of two keeps the rule.
-use Rattle.std.proofs.Common.{◌≡◌, ◌≢◌, ◌⊎◌, ℕ, zero, suc, ◌+◌, ◌<◌, List, [], ◌∷◌, ◌++◌, length, set, Option, Some, None, Bool, true, false, true≢false, refl, sym, ap, ◌∙◌, subst, inl, inr, ⊎_elim, arith}
-use Rattle.std.specs.Prelude.{slice_index, IfSome, All}
+use Rattle.std.proofs.Common.{◌≡◌, ◌≢◌, ◌⊎◌, ℕ, ◌+◌, List, [], ◌∷◌, ◌++◌, length, set, Option, Some, true, false, refl, sym, ap, ◌∙◌, subst, inl, inr, ⊎_elim, arith}
+use Rattle.std.specs.Prelude.{slice_index, All}
 use Rattle.std.specs.Prelude.{min}
 use Rattle.std.proofs.Math.Nat.{min-le_left, min-le_right}
 use Rattle.std.proofs.Common.{◌≤◌}
 use Rattle.std.proofs.Math.Dec.{eqb}
 use Rattle.std.proofs.lemmas.Bool.Decides.{eqb_tells}
 use Rattle.std.proofs.lemmas.List.Elements.{All-append}
-use mathlib.Core.Option.{some, none, some-injective, some-ne-none}
-use mathlib.Core.List.{IsPrefix}
+use mathlib.Core.Option.{some, some-injective}
 use lib.ListN.{get_elem?}
 use Rattle.atomic_table.specs.Table.{State, Me, Act, keeps, Valid, stepped, carried_after, Joins, Allows}
 use Rattle.atomic_table.proofs.Lists.{set_else, set_again}
 use Rattle.ident_rules.specs.Owned.{is_among, entries_by}
 use Rattle.history_lock.specs.declared.rule.Knows.{Knows}
-use Rattle.history_lock.specs.declared.rule.Joined.{Joined}
 use Rattle.history_lock.specs.declared.rule.Start.{Start}
 use Rattle.history_lock.specs.Views.{spent, is_idle, longer, both_views}
-use Rattle.history_lock.specs.Rule.{IsRight, IsJoined, Fits, AreApart, IsFree, IsTaken, IsOpen, IsKept}
+use Rattle.history_lock.specs.Rule.{IsRight, Fits, AreApart, IsTaken, IsOpen, IsKept}
 use Rattle.history_lock.specs.Told.{Settled}
-use Rattle.history_lock.proofs.Histories.{off, longer_is, all_of, among_either, among_left, among_right, between, none_behind, none_both, behind, count_both}
-use Rattle.history_lock.proofs.Passing.{here, all_set, right_of}
+use Rattle.history_lock.proofs.Histories.{off, longer_is, all_of, between, none_behind, none_both, behind, count_both}
+use Rattle.history_lock.specs.Numbers.{among_either, among_left, among_right}
+use Rattle.history_lock.proofs.Passing.{all_set, right_of}
 use Rattle.history_lock.proofs.Keeping.{is_open, idle_parts}
 
 module _ {T E K : Type 0} (stands : T → ℕ → List E → Type 0) (by : E → ℕ) (kind : T → K) where
@@ -54,8 +53,10 @@ module _ {T E K : Type 0} (stands : T → ℕ → List E → Type 0) (by : E →
     where
       both : Knows E K
       both = both_views by v w
+
       views : List (Knows E K)
       views = set (set s.views id both) other spent
+
       there : get_elem? s.views other ≡ some w
       there = sym (set_else s.views id other both apart_is) ∙ at_other
 
@@ -63,8 +64,8 @@ module _ {T E K : Type 0} (stands : T → ℕ → List E → Type 0) (by : E →
           → (j : ℕ) (u : Knows E K) → get_elem? views j ≡ some u → P j u
       all_both P others mine last =
           all_set P (set s.views id both) other spent
-            (λ j u off' e. all_set (λ j' u'. j' ≢ other → P j' u') s.views id both (λ j' u' ne e' off''. others j' u' ne off'' e') (λ off''. mine) j u e off')
-            last
+          (λ j u off' e. all_set (λ j' u'. j' ≢ other → P j' u') s.views id both (λ j' u' ne e' off''. others j' u' ne off'' e') (λ off''. mine) j u e off')
+          last
 
       -- where a view stood before, or that it is one of the two
       Origin : ℕ → Knows E K → Type 0
@@ -107,28 +108,28 @@ module _ {T E K : Type 0} (stands : T → ℕ → List E → Type 0) (by : E →
             fits = all_both (λ j u. Fits by start o.k o.log u) (λ j u ne off' e. o.fits j u e) (inr (both_right start o.k o.log v w differ a b)) (inl refl);
             apart = λ i j x y n p q f g. apart_of o.apart i j x y n (origin i x p) (origin j y q) f g;
             lock = ⊎_elim
-              (λ f. inl record {
-                words = f.words;
-                value = f.value;
-                home = f.home;
-                stands_for = f.stands_for;
-                has_kind = f.has_kind;
-                free = all_both (λ j u. u.holds ≡ false) (λ j u ne off' e. f.free j u e) v_free refl;
-              })
-              (λ t. inr record {
-                words = t.words;
-                seat = t.seat;
-                view = t.view;
-                there = set_else (set s.views id both) other t.seat spent (not_held start.first o.k o.log t other w there w_free)
-                  ∙ set_else s.views id t.seat both (not_held start.first o.k o.log t id v at v_free)
-                  ∙ t.there;
-                holder = t.holder;
-                whole = t.whole;
-                settled = t.settled;
-                out = t.out;
-                alone = all_both (λ j u. u.holds ≡ true → j ≡ t.seat) (λ j u ne no e h. t.alone j u e h) (λ h. absurd (off (sym v_free ∙ h))) (λ h. absurd (off h));
-              })
-              o.lock;
+                (λ f. inl record {
+                  words = f.words;
+                  value = f.value;
+                  home = f.home;
+                  stands_for = f.stands_for;
+                  has_kind = f.has_kind;
+                  free = all_both (λ j u. u.holds ≡ false) (λ j u ne off' e. f.free j u e) v_free refl;
+                })
+                (λ t. inr record {
+                  words = t.words;
+                  seat = t.seat;
+                  view = t.view;
+                  there = set_else (set s.views id both) other t.seat spent (not_held start.first o.k o.log t other w there w_free)
+                      ∙ set_else s.views id t.seat both (not_held start.first o.k o.log t id v at v_free)
+                      ∙ t.there;
+                  holder = t.holder;
+                  whole = t.whole;
+                  settled = t.settled;
+                  out = t.out;
+                  alone = all_both (λ j u. u.holds ≡ true → j ≡ t.seat) (λ j u ne no e h. t.alone j u e h) (λ h. absurd (off (sym v_free ∙ h))) (λ h. absurd (off h));
+                })
+                o.lock;
           }
 
   pub joins_as : (start : Start) (id : ℕ) (v : Knows E K) (other : ℕ) (w : Knows E K) → is_idle v ≡ true → is_idle w ≡ true
@@ -154,12 +155,12 @@ module _ {T E K : Type 0} (stands : T → ℕ → List E → Type 0) (by : E →
   pass_of_both v w u a b is p q idle =
       subst (λ (x : Knows E K). (is_among (min a b) x.numbers ≡ true) × All (λ n. min a b ≤ n) x.numbers × (is_idle x ≡ true)) (sym is) (
         ⊎_elim
-          (λ h. subst (λ (n : ℕ). is_among n (v.numbers ++ w.numbers) ≡ true) (sym h) (among_left a v.numbers w.numbers p.0))
-          (λ h. subst (λ (n : ℕ). is_among n (v.numbers ++ w.numbers) ≡ true) (sym h) (among_right b v.numbers w.numbers q.0))
-          (min_is a b),
+            (λ h. subst (λ (n : ℕ). is_among n (v.numbers ++ w.numbers) ≡ true) (sym h) (among_left a v.numbers w.numbers p.0))
+            (λ h. subst (λ (n : ℕ). is_among n (v.numbers ++ w.numbers) ≡ true) (sym h) (among_right b v.numbers w.numbers q.0))
+            (min_is a b),
         All-append (λ n. min a b ≤ n) v.numbers w.numbers
-          (all_of (λ n. a ≤ n) (λ n. min a b ≤ n) (λ n h. let m = min-le_left a b in omega (arith, m, h)) v.numbers p.1)
-          (all_of (λ n. b ≤ n) (λ n. min a b ≤ n) (λ n h. let m = min-le_right a b in omega (arith, m, h)) w.numbers q.1),
+            (all_of (λ n. a ≤ n) (λ n. min a b ≤ n) (λ n h. let m = min-le_left a b in omega (arith, m, h)) v.numbers p.1)
+            (all_of (λ n. b ≤ n) (λ n. min a b ≤ n) (λ n h. let m = min-le_right a b in omega (arith, m, h)) w.numbers q.1),
         idle,
       )
 
@@ -179,6 +180,7 @@ module _ {T E K : Type 0} (stands : T → ℕ → List E → Type 0) (by : E →
           let path : s0 ≡ s = λ i. record { words = sym words i; homes = s.homes; views = s.views } in
           let same : s ≡ stepped s0 0 x id me.1 me.0 keeps = λ i. record { words = words i; homes = s.homes; views = sym (set_again s.views id me.0 at) i } in
           subst (SettleGoal start id me) path
-            (me.0, keeps, tt, subst (IsKept stands by kind start) same kept, (refl, refl, (right_of by start o.k o.log me.0 k' is (o.fits id me.0 at)).joined))
+          (me.0, keeps, tt, subst (IsKept stands by kind start) same kept, (refl, refl, (right_of by start o.k o.log me.0 k' is (o.fits id me.0 at)).joined))
+
       by_open : IsOpen stands by kind start s → SettleGoal start id me s
       by_open o = ⊎_elim (λ f. by_words o 0 (start.first + length o.log) f.words) (λ t. by_words o 1 (start.first + length o.log) t.words) o.lock

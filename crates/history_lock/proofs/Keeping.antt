@@ -1,6 +1,6 @@
 -- To take the lock, to add an entry and to give the lock back keep the rule.
-use Rattle.std.proofs.Common.{◌≡◌, ◌≢◌, ◌⊎◌, ℕ, zero, suc, ◌+◌, ◌%◌, ◌^◌, ◌<◌, ◌≤◌, ◌==◌, List, [], ◌∷◌, ◌++◌, length, set, Option, Some, None, Bool, true, false, true≢false, refl, sym, ap, ◌∙◌, subst, inl, inr, ⊎_elim, arith, length-append}
-use Rattle.std.specs.Prelude.{slice_index, not, ◌&&◌, is_some, IfSome, All}
+use Rattle.std.proofs.Common.{◌≡◌, ◌≢◌, ℕ, zero, suc, ◌+◌, ◌%◌, ◌^◌, ◌<◌, ◌==◌, List, [], ◌∷◌, ◌++◌, length, Option, Some, None, Bool, true, false, refl, sym, ap, ◌∙◌, subst, inl, inr, ⊎_elim, arith, length-append}
+use Rattle.std.specs.Prelude.{slice_index, not, ◌&&◌, is_some, IfSome}
 use Rattle.std.proofs.Math.Nat.{mod-eq_of_lt}
 use Rattle.std.proofs.lemmas.List.Elements.{All-append, All-cons, All-nil}
 use mathlib.Core.Option.{some, none, some-injective}
@@ -9,12 +9,12 @@ use lib.ListN.{get_elem?}
 use prog.Atomic.{either}
 use Rattle.atomic_table.specs.Table.{State, Me, Act, keeps, takes, gives, Valid, stepped, carried_after, Allows}
 use Rattle.atomic_table.proofs.Lists.{set_again}
-use Rattle.ident_rules.specs.Owned.{is_among, entries_by}
+use Rattle.ident_rules.specs.Owned.{is_among}
 use Rattle.history_lock.specs.declared.rule.Knows.{Knows}
 use Rattle.history_lock.specs.declared.rule.Start.{Start}
 use Rattle.history_lock.specs.Views.{blank, fetched, is_idle, taken_view, more_view, free_view}
-use Rattle.history_lock.specs.Rule.{IsRight, Fits, IsJoined, IsFree, IsTaken, IsOpen, IsNew, IsKept}
-use Rattle.history_lock.specs.Told.{Takes, Taken, Given, Raised}
+use Rattle.history_lock.specs.Rule.{Fits, IsJoined, IsFree, IsTaken, IsOpen, IsKept}
+use Rattle.history_lock.specs.Told.{Taken, Given, Raised}
 use Rattle.history_lock.proofs.Histories.{off, prefix_self, prefix_more, own_more, none_more}
 use Rattle.history_lock.proofs.Passing.{here, same_at, some_is, none_is_not, all_set, apart_set, right_of}
 
@@ -62,7 +62,7 @@ module _ {T E K : Type 0} (stands : T → ℕ → List E → Type 0) (by : E →
               k = o.k;
               named = o.named;
               fits = all_set (λ j u. Fits by start o.k o.log u) s.views id w (λ j u ne e. o.fits j u e)
-                (inr record { first = right.first; kind = right.kind; some_number = right.some_number; small = right.small; seen = prefix_self o.log; within = right.mine; mine = right.mine; joined = tt });
+                  (inr record { first = right.first; kind = right.kind; some_number = right.some_number; small = right.small; seen = prefix_self o.log; within = right.mine; mine = right.mine; joined = tt });
               apart = apart_set s.views id v w at refl o.apart;
               lock = inr record {
                 words = refl;
@@ -87,12 +87,14 @@ module _ {T E K : Type 0} (stands : T → ℕ → List E → Type 0) (by : E →
               has_kind = right.kind ∙ ap Some (sym f.has_kind);
             },
           )
+
       by_taken : (o : IsOpen stands by kind start s) → IsTaken stands by kind start.first o.k o.log s → TakeGoal start id v s
       by_taken o t =
           let s0 : State (Option T) (Knows E K) = record { words = 1 ∷ (start.first + length o.log) ∷ []; homes = s.homes; views = s.views } in
           let path : s0 ≡ s = λ i. record { words = sym t.words i; homes = s.homes; views = s.views } in
           let same : s ≡ stepped s0 0 1 id [] v keeps = λ i. record { words = t.words i; homes = s.homes; views = sym (set_again s.views id v at) i } in
           subst (TakeGoal start id v) path (v, keeps, tt, subst (IsKept stands by kind start) same kept, (refl, refl))
+
       by_lock : IsOpen stands by kind start s → TakeGoal start id v s
       by_lock o = ⊎_elim (by_free o) (by_taken o) o.lock
 
@@ -141,7 +143,7 @@ module _ {T E K : Type 0} (stands : T → ℕ → List E → Type 0) (by : E →
               k = o.k;
               named = o.named;
               fits = all_set (λ j u. Fits by start o.k o.log u) s.views id w (λ j u ne e. o.fits j u e)
-                (inr record { first = right.first; kind = right.kind; some_number = right.some_number; small = right.small; seen = right.seen; within = right.within; mine = right.mine; joined = settled t same });
+                  (inr record { first = right.first; kind = right.kind; some_number = right.some_number; small = right.small; seen = right.seen; within = right.within; mine = right.mine; joined = settled t same });
               apart = apart_set s.views id v w at refl o.apart;
               lock = inl record {
                 words = refl;
@@ -157,11 +159,14 @@ module _ {T E K : Type 0} (stands : T → ℕ → List E → Type 0) (by : E →
         where
           settled : {k' : K} {log : List E} → (t : IsTaken stands by kind start.first k' log s) → v ≡ t.view → IfSome v.joined (IsJoined (free_view v))
           settled t same = subst (λ j. IfSome j (IsJoined (free_view v))) (sym (ap (λ (y : Knows E K). y.joined) same ∙ t.settled)) tt
+
           by_bool : {k' : K} {log : List E} → (t : IsTaken stands by kind start.first k' log s) → id ≡ t.seat → (j : ℕ) (u : Knows E K) → j ≢ id → get_elem? s.views j ≡ some u → (b : Bool) → u.holds ≡ b → u.holds ≡ false
           by_bool t mine j u ne e true h = absurd (ne (t.alone j u e h ∙ sym mine))
           by_bool t mine j u ne e false h = h
+
           not_held : {k' : K} {log : List E} → (t : IsTaken stands by kind start.first k' log s) → id ≡ t.seat → (j : ℕ) (u : Knows E K) → j ≢ id → get_elem? s.views j ≡ some u → u.holds ≡ false
           not_held t mine j u ne e = by_bool t mine j u ne e u.holds refl
+
       by_lock : IsOpen stands by kind start s → GiveGoal start id v x s
       by_lock o = ⊎_elim (λ f. absurd (off (sym (f.free id v at) ∙ holding))) (by_taken o) o.lock
 
@@ -185,9 +190,11 @@ module _ {T E K : Type 0} (stands : T → ℕ → List E → Type 0) (by : E →
     where
       counts : (n : ℕ) → n ≡ v.first + length v.seen → (n + 1) % 2 ^ 64 ≡ n + 1
       counts n h = small_mod (n + 1) (omega arith)
+
       by_bool : (o : IsOpen stands by kind start s) → (j : ℕ) (u : Knows E K) → j ≢ id → get_elem? s.views j ≡ some u → (b : Bool) → is_among (by e) u.numbers ≡ b → is_among (by e) u.numbers ≡ false
       by_bool o j u ne at' true h = absurd (ne (o.apart j id u v (by e) at' at h own))
       by_bool o j u ne at' false h = h
+
       others : (o : IsOpen stands by kind start s) → (j : ℕ) (u : Knows E K) → j ≢ id → get_elem? s.views j ≡ some u → Fits by start o.k o.log u → Fits by start o.k (o.log ++ e ∷ []) u
       others o j u ne at' (inl same) = inl same
       others o j u ne at' (inr f) = inr record {
@@ -200,6 +207,7 @@ module _ {T E K : Type 0} (stands : T → ℕ → List E → Type 0) (by : E →
         mine = none_more by u.numbers e o.log (by_bool o j u ne at' (is_among (by e) u.numbers) refl) ∙ f.mine;
         joined = f.joined;
       }
+
       by_taken : (o : IsOpen stands by kind start s) → IsTaken stands by kind start.first o.k o.log s → RaiseGoal start id v c (e ∷ []) s
       by_taken o t =
           let w = more_view v (e ∷ []) in
@@ -220,16 +228,16 @@ module _ {T E K : Type 0} (stands : T → ℕ → List E → Type 0) (by : E →
               k = o.k;
               named = All-append (λ x. by x < start.passes) o.log (e ∷ []) o.named (All-cons (λ x. by x < start.passes) e [] (right.small (by e) own) (All-nil (λ x. by x < start.passes)));
               fits = all_set (λ j u. Fits by start o.k log' u) s.views id w (λ j u ne at'. others o j u ne at' (o.fits j u at'))
-                (inr record {
-                  first = right.first;
-                  kind = right.kind;
-                  some_number = right.some_number;
-                  small = right.small;
-                  seen = subst (λ l. IsPrefix (v.seen ++ e ∷ []) (l ++ e ∷ [])) whole (prefix_self (v.seen ++ e ∷ []));
-                  within = own_more by v.numbers e v.seen own ∙ ap (λ l. l ++ e ∷ []) right.within;
-                  mine = own_more by v.numbers e o.log own ∙ ap (λ l. l ++ e ∷ []) right.mine;
-                  joined = subst (λ j. IfSome j (IsJoined w)) (sym unjoined) tt;
-                });
+                  (inr record {
+                    first = right.first;
+                    kind = right.kind;
+                    some_number = right.some_number;
+                    small = right.small;
+                    seen = subst (λ l. IsPrefix (v.seen ++ e ∷ []) (l ++ e ∷ [])) whole (prefix_self (v.seen ++ e ∷ []));
+                    within = own_more by v.numbers e v.seen own ∙ ap (λ l. l ++ e ∷ []) right.within;
+                    mine = own_more by v.numbers e o.log own ∙ ap (λ l. l ++ e ∷ []) right.mine;
+                    joined = subst (λ j. IfSome j (IsJoined w)) (sym unjoined) tt;
+                  });
               apart = apart_set s.views id v w at refl o.apart;
               lock = inr record {
                 words = ap (λ (n : ℕ). 1 ∷ n ∷ []) (counts (start.first + length o.log) (ap (λ n. n + length o.log) (sym right.first) ∙ ap (λ (l : List E). v.first + length l) (sym whole)) ∙ omega (arith, length-append o.log (e ∷ [])));
@@ -245,6 +253,7 @@ module _ {T E K : Type 0} (stands : T → ℕ → List E → Type 0) (by : E →
             },
             (refl, refl),
           )
+
       by_lock : IsOpen stands by kind start s → RaiseGoal start id v c (e ∷ []) s
       by_lock o = ⊎_elim (λ f. absurd (off (sym (f.free id v at) ∙ holding))) (by_taken o) o.lock
 

@@ -6,4 +6,3 @@ mod Parting
 mod Dealing
 mod Joining
 mod Closing
-

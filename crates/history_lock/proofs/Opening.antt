@@ -1,6 +1,6 @@
 -- The first steps of a lock keep its rule.
 use Rattle.std.proofs.Common.{◌≡◌, ◌⊎◌, ℕ, zero, suc, ◌+◌, ◌<◌, ◌≤◌, ◌==◌, List, [], ◌∷◌, length, Option, Some, None, Bool, true, false, refl, sym, ap, ◌∙◌, subst, inl, inr, ⊎_elim, arith, add-zero}
-use Rattle.std.specs.Prelude.{All, ◌||◌}
+use Rattle.std.specs.Prelude.{◌||◌}
 use Rattle.std.proofs.lemmas.List.Elements.{All-nil}
 use mathlib.Core.Option.{some, none, some-injective, some-ne-none}
 use lib.ListN.{get_elem?}
@@ -9,7 +9,7 @@ use Rattle.ident_rules.specs.Owned.{is_among}
 use Rattle.history_lock.specs.declared.rule.Knows.{Knows}
 use Rattle.history_lock.specs.declared.rule.Start.{Start}
 use Rattle.history_lock.specs.Views.{numbers_from, blank, fetched, new_view}
-use Rattle.history_lock.specs.Rule.{IsRight, Fits, IsNew, IsOpen, IsKept}
+use Rattle.history_lock.specs.Rule.{IsRight, Fits, IsNew, IsKept}
 use Rattle.history_lock.specs.Told.{Fetched, Opened}
 use Rattle.history_lock.proofs.Histories.{off, prefix_self}
 use Rattle.std.proofs.lemmas.Bool.{eqb-true, eq-eqb}
@@ -61,9 +61,11 @@ module _ {T E K : Type 0} (stands : T → ℕ → List E → Type 0) (by : E →
       by_stage new (inr t) =
           let same : fetched {E = E} {K = K} start ≡ blank start = some-injective _ _ (subst (λ l. get_elem? l 0 ≡ some (blank {E = E} {K = K} start)) t.1 at) in
           absurd (off (sym (ap (λ (y : Knows E K). y.holds) same)))
+
       by_fits : (k : K) → (log : List E) → Fits by start k log (blank start) → FetchGoal start s
       by_fits k log (inl e) = absurd (no_numbers 0 start.passes some_pass (ap (λ (y : Knows E K). y.numbers) e))
       by_fits k log (inr r) = absurd (none_is_not k r.kind)
+
       by_kept : IsKept stands by kind start s → FetchGoal start s
       by_kept (inl new) = by_stage new new.stage
       by_kept (inr o) = by_fits o.k o.log (o.fits 0 (blank start) at)
@@ -79,11 +81,14 @@ module _ {T E K : Type 0} (stands : T → ℕ → List E → Type 0) (by : E →
     where
       numbers : List ℕ
       numbers = numbers_from 0 start.passes
+
       w : Knows E K
       w = new_view start (kind x) numbers
+
       only : (P : ℕ → Knows E K → Type 0) → P 0 w → (i : ℕ) (v : Knows E K) → get_elem? (w ∷ []) i ≡ some v → P i v
       only P p zero v e = subst (P 0) (some-injective _ _ e) p
       only P p (suc i) v e = absurd (some-ne-none v (sym e))
+
       by_stage : IsNew stands by kind start s → ((s.homes ≡ some None ∷ []) × (s.views ≡ blank start ∷ [])) ⊎ ((s.homes ≡ none ∷ []) × (s.views ≡ fetched start ∷ [])) → OpenGoal start x s
       by_stage new (inr t) =
           let s0 : State (Option T) (Knows E K) = record { words = 2 ∷ start.first ∷ []; homes = none ∷ []; views = fetched start ∷ [] } in
@@ -115,9 +120,11 @@ module _ {T E K : Type 0} (stands : T → ℕ → List E → Type 0) (by : E →
       by_stage new (inl t) =
           let same : blank {E = E} {K = K} start ≡ fetched start = some-injective _ _ (subst (λ l. get_elem? l 0 ≡ some (fetched {E = E} {K = K} start)) t.1 at) in
           absurd (off (ap (λ (y : Knows E K). y.holds) same))
+
       by_fits : (k : K) → (log : List E) → Fits by start k log (fetched start) → OpenGoal start x s
       by_fits k log (inl e) = absurd (off (sym (ap (λ (y : Knows E K). y.holds) e)))
       by_fits k log (inr r) = absurd (none_is_not k r.kind)
+
       by_kept : IsKept stands by kind start s → OpenGoal start x s
       by_kept (inl new) = by_stage new new.stage
       by_kept (inr o) = by_fits o.k o.log (o.fits 0 (fetched start) at)
@@ -147,5 +154,5 @@ module _ {T E K : Type 0} (stands : T → ℕ → List E → Type 0) (by : E →
   opened_as start me now value is o =
       let same : o.0 ≡ value = held_one o.0 value (sym o.1 ∙ ap (λ (m : Me (Option T) (Knows E K)). m.1) is) in
       let view : now.0 ≡ new_view start (kind value) (numbers_from 0 start.passes) =
-          o.2 ∙ (λ i. record (is i).0 { holds = false; kind = Some (kind (same i)) }) in
+      o.2 ∙ (λ i. record (is i).0 { holds = false; kind = Some (kind (same i)) }) in
       λ i. (view i, o.3 i)

@@ -1,19 +1,18 @@
 -- To give the first number of a pass to a new one keeps the rule.
-use Rattle.std.proofs.Common.{◌≡◌, ◌≢◌, ◌⊎◌, ℕ, zero, suc, ◌+◌, ◌<◌, ◌≤◌, List, [], ◌∷◌, ◌++◌, length, set, Option, Some, None, Bool, true, false, true≢false, refl, sym, ap, ◌∙◌, subst, inl, inr, ⊎_elim, arith}
+use Rattle.std.proofs.Common.{◌≡◌, ◌≢◌, ◌⊎◌, ℕ, zero, suc, ◌≤◌, List, [], ◌∷◌, ◌++◌, length, set, Bool, true, false, refl, sym, ap, ◌∙◌, subst, inl, inr, ⊎_elim, arith}
 use Rattle.std.specs.Prelude.{◌==◌, ◌||◌}
-use mathlib.Core.Option.{some, none, some-injective, some-ne-none}
-use mathlib.Core.List.{IsPrefix}
+use mathlib.Core.Option.{some, some-injective, some-ne-none}
 use lib.ListN.{get_elem?}
 use Rattle.std.proofs.lemmas.Bool.{eqb-true}
-use Rattle.atomic_table.specs.Table.{State, Splits}
+use Rattle.atomic_table.specs.Table.{Splits}
 use Rattle.atomic_table.proofs.Lists.{set_else, at_longer}
-use Rattle.ident_rules.specs.Owned.{is_among, entries_by}
+use Rattle.ident_rules.specs.Owned.{is_among}
 use Rattle.history_lock.specs.declared.rule.Knows.{Knows}
 use Rattle.history_lock.specs.declared.rule.Start.{Start}
 use Rattle.history_lock.specs.Views.{numbers_from, new_view, first_of, rest_of}
-use Rattle.history_lock.specs.Rule.{IsRight, Fits, AreApart, IsFree, IsTaken, IsOpen, IsKept}
+use Rattle.history_lock.specs.Rule.{IsRight, Fits, AreApart, IsTaken, IsOpen, IsKept}
 use Rattle.history_lock.proofs.Histories.{off, none_of_part}
-use Rattle.history_lock.proofs.Passing.{here, all_set, right_of}
+use Rattle.history_lock.proofs.Passing.{all_set, right_of}
 use Rattle.history_lock.proofs.Keeping.{is_open}
 use Rattle.history_lock.proofs.Opening.{among_from, among_first}
 
@@ -65,14 +64,19 @@ module _ {T E K : Type 0} (stands : T → ℕ → List E → Type 0) (by : E →
     where
       ns : List ℕ
       ns = numbers_from i (suc (suc count))
+
       ms : List ℕ
       ms = numbers_from (suc i) (suc count)
+
       v : Knows E K
       v = new_view start k' ns
+
       left : Knows E K
       left = new_view start k' ms
+
       right : Knows E K
       right = new_view start k' (i ∷ [])
+
       views : List (Knows E K)
       views = set s.views id left ++ right ∷ []
 
@@ -117,30 +121,30 @@ module _ {T E K : Type 0} (stands : T → ℕ → List E → Type 0) (by : E →
             k = o.k;
             named = o.named;
             fits = all_parts (λ j u. Fits by start o.k o.log u) (λ j u ne e. o.fits j u e)
-              (inr (part_right start o.k o.log k' ns ms (suc i) (among_first (suc i) (numbers_from (suc (suc i)) count)) (λ n e. behind_first n i ms e) was))
-              (inr (part_right start o.k o.log k' ns (i ∷ []) i (among_first i []) in_first was));
+                (inr (part_right start o.k o.log k' ns ms (suc i) (among_first (suc i) (numbers_from (suc (suc i)) count)) (λ n e. behind_first n i ms e) was))
+                (inr (part_right start o.k o.log k' ns (i ∷ []) i (among_first i []) in_first was));
             apart = λ a b x y n p q f g. apart_of o.apart a b x y n (origin a x p) (origin b y q) f g;
             lock = ⊎_elim
-              (λ f. inl record {
-                words = f.words;
-                value = f.value;
-                home = f.home;
-                stands_for = f.stands_for;
-                has_kind = f.has_kind;
-                free = all_parts (λ j u. u.holds ≡ false) (λ j u ne e. f.free j u e) refl refl;
-              })
-              (λ t. inr record {
-                words = t.words;
-                seat = t.seat;
-                view = t.view;
-                there = at_longer (set s.views id left) (right ∷ []) t.seat t.view (set_else s.views id t.seat left (not_here t) ∙ t.there);
-                holder = t.holder;
-                whole = t.whole;
-                settled = t.settled;
-                out = t.out;
-                alone = all_parts (λ j u. u.holds ≡ true → j ≡ t.seat) (λ j u ne e h. t.alone j u e h) (λ h. absurd (off h)) (λ h. absurd (off h));
-              })
-              o.lock;
+                (λ f. inl record {
+                  words = f.words;
+                  value = f.value;
+                  home = f.home;
+                  stands_for = f.stands_for;
+                  has_kind = f.has_kind;
+                  free = all_parts (λ j u. u.holds ≡ false) (λ j u ne e. f.free j u e) refl refl;
+                })
+                (λ t. inr record {
+                  words = t.words;
+                  seat = t.seat;
+                  view = t.view;
+                  there = at_longer (set s.views id left) (right ∷ []) t.seat t.view (set_else s.views id t.seat left (not_here t) ∙ t.there);
+                  holder = t.holder;
+                  whole = t.whole;
+                  settled = t.settled;
+                  out = t.out;
+                  alone = all_parts (λ j u. u.holds ≡ true → j ≡ t.seat) (λ j u ne e h. t.alone j u e h) (λ h. absurd (off h)) (λ h. absurd (off h));
+                })
+                o.lock;
           }
         where
           not_here : (t : IsTaken stands by kind start.first o.k o.log s) → t.seat ≢ id

@@ -1,3 +1,4 @@
+pub mod Numbers
 pub mod Views
 pub mod Rule
 pub mod Told

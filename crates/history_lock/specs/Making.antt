@@ -1,5 +1,6 @@
 -- A lock as it is made, and its passes.
-use Rattle.std.specs.Prelude.{ℕ, zero, suc, ◌≡◌, List, [], ◌∷◌, length, Option, Some}
+use Rattle.std.specs.Prelude.{ℕ, zero, suc, ◌≡◌, List, [], ◌∷◌, ◌++◌, ◌+◌, length, Option, Some}
+use Rattle.std.proofs.Common.{ap, ◌∙◌, arith}
 use Rattle.atomic_table.specs.Seated.{TableId}
 use Rattle.history_lock.specs.declared.rule.Knows.{Knows}
 use Rattle.history_lock.specs.declared.rule.Start.{Start}
@@ -13,6 +14,14 @@ new_pass name start k number = record { lock = name; view = new_view start k (nu
 abbrev pub passes_from : {E K : Type 0} → TableId → Start → K → ℕ → ℕ → List (PassState E K)
 passes_from name start k i zero = []
 passes_from name start k i (suc n) = new_pass name start k i ∷ passes_from name start k (suc i) n
+
+module _ {E K : Type 0} (name : TableId) (start : Start) (k : K) where
+  -- one more pass behind them
+  pub one_more_pass : (i count : ℕ) → passes_from {E = E} name start k i (suc count) ≡ passes_from name start k i count ++ new_pass name start k (i + count) ∷ []
+  one_more_pass i zero = ap (λ (n : ℕ). new_pass name start k n ∷ []) (omega arith)
+  one_more_pass i (suc count) =
+      ap (λ (l : List (PassState E K)). new_pass name start k i ∷ l)
+      (one_more_pass (suc i) count ∙ ap (λ (n : ℕ). passes_from name start k (suc i) count ++ new_pass name start k n ∷ []) (omega arith))
 
 -- the lock begins so, and the i-th of its passes, from 0, has the number i alone
 pub record AreMade {E K : Type 0} (first passes : ℕ) (k : K) (lock : LockState) (made : List (PassState E K)) : Type 0 where

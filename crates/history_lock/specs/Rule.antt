@@ -1,7 +1,7 @@
 -- The rule of a history lock: what holds of its words, its place and the views of all passes between any two steps.
 -- The first word is 0 where the lock is free, 1 where a pass holds it, and 2 before its value is there. The second is the number of the
 -- last entry.
-use Rattle.std.specs.Prelude.{◌≡◌, ℕ, ◌+◌, ◌<◌, List, [], ◌∷◌, length, Option, Some, None, Bool, true, false, ◌⊎◌, IfSome, All}
+use Rattle.std.specs.Prelude.{◌≡◌, ℕ, ◌+◌, ◌<◌, List, [], ◌∷◌, length, Option, Some, None, true, false, ◌⊎◌, IfSome, All}
 use mathlib.Core.Option.{some, none}
 use mathlib.Core.List.{IsPrefix}
 use lib.ListN.{get_elem?}

@@ -1,12 +1,11 @@
 -- What the steps of a history lock tell the pass that makes them.
-use Rattle.std.specs.Prelude.{◌≡◌, ℕ, ◌<◌, ◌==◌, ◌≤◌, List, [], ◌∷◌, Option, Some, None, true, false, IfSome, MatchBool}
+use Rattle.std.specs.Prelude.{◌≡◌, ℕ, ◌==◌, List, [], ◌∷◌, Option, Some, None, true, false, IfSome, MatchBool}
 use mathlib.Core.List.{IsPrefix}
 use Rattle.atomic_table.specs.Table.{Me}
 use Rattle.ident_rules.specs.Owned.{entries_by}
 use Rattle.history_lock.specs.declared.rule.Knows.{Knows}
-use Rattle.history_lock.specs.declared.rule.Start.{Start}
 use Rattle.history_lock.specs.Rule.{IsJoined}
-use Rattle.history_lock.specs.Views.{fetched, new_view, taken_view, more_view, free_view, blank}
+use Rattle.history_lock.specs.Views.{taken_view, more_view, free_view}
 
 module _ {T E K : Type 0} where
   abbrev pub Fetched : Me (Option T) (Knows E K) → Me (Option T) (Knows E K) → Type 0

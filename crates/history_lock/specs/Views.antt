@@ -1,9 +1,8 @@
 -- What a pass knows, and how each step changes it.
-use Rattle.std.specs.Prelude.{◌≡◌, ℕ, zero, suc, ◌+◌, ◌≤◌, List, [], ◌∷◌, ◌++◌, length, Option, Some, None, Bool, true, false, ◌&&◌, not, is_some}
+use Rattle.std.specs.Prelude.{ℕ, zero, suc, ◌+◌, List, [], ◌∷◌, ◌++◌, length, Some, None, Bool, true, false, ◌&&◌, not, is_some}
 use Rattle.atomic_table.specs.Seated.{TableId}
 use Rattle.ident_rules.specs.Owned.{entries_by}
 use Rattle.history_lock.specs.declared.rule.Knows.{Knows}
-use Rattle.history_lock.specs.declared.rule.Joined.{Joined}
 use Rattle.history_lock.specs.declared.rule.Start.{Start}
 
 -- so many numbers, from one on

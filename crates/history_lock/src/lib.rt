@@ -5,14 +5,11 @@
 //! entries there with its numbers are exactly its own. Waiting is `enter` alone. It stands on the kit's `atomic_table`.
 #![tactic(auto)]
 
-
 mod joins;
 mod lock;
 mod making;
 mod passes;
 mod rule;
-
-
 
 pub use lock::HistoryLock;
 pub use passes::{Held, Pass};

@@ -69,7 +69,11 @@ impl<T: Keeps> HistoryLock<T> {
     }
 
     /// Takes the value out of its place.
-    fn fetch(&self, number: u32, mut seat: Seat<Option<T>, Knows<T::Entry, T::Kind>>) -> Held<T, T::Entry, T::Kind>
+    fn fetch(
+        &self,
+        number: u32,
+        mut seat: Seat<Option<T>, Knows<T::Entry, T::Kind>>,
+    ) -> Held<T, T::Entry, T::Kind>
         requires table { seat.table_id ≡ self.now.name }
         requires own { is_among number seat.me.0.numbers ≡ true }
         requires least { All (λ n. number ≤ n) seat.me.0.numbers }

@@ -24,12 +24,13 @@ impl<T: Keeps + Drop> HistoryLock<T> {
         ensures { IfOk result (λ r. AreMade first passes (T.kind value) r.0 r.1.items) }
     {
         let start = Start { first, passes };
-        let (table, mut seat) = Table::<Option<T>, Knows<T::Entry, T::Kind>, Start, Law<T>, Global>::vacant(
-            alloc,
-            &[2, first],
-            1,
-            &start,
-        )?;
+        let (table, mut seat) = Table::<
+            Option<T>,
+            Knows<T::Entry, T::Kind>,
+            Start,
+            Law<T>,
+            Global,
+        >::vacant(alloc, &[2, first], 1, &start)?;
         table.shared.store::<Fetches<T>>(&mut seat, 0, 2);
         let lock = HistoryLock { table, first };
         lock.put_back(&mut seat, value);

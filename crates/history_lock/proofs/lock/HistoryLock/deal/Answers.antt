@@ -1,4 +1,4 @@
-use Rattle.std.proofs.Common.{◌≡◌, ◌+◌, ◌-◌, ℕ, [], ◌∷◌, ◌++◌, List, ap, refl, sym, ◌∙◌, subst, arith}
+use Rattle.std.proofs.Common.{◌≡◌, ◌+◌, ◌-◌, ℕ, [], ◌∷◌, ◌++◌, ap, sym, ◌∙◌, subst, arith}
 use Rattle.history_lock.specs.Views.{new_view, numbers_from}
 use Rattle.history_lock.specs.Making.{new_pass, passes_from}
 use Rattle.history_lock.proofs.Parting.{splits_as}
@@ -13,9 +13,11 @@ split_seat-own-requires g c =
     let number = c.loop-number.number in
     let view = ap (λ m. m.0) (c.loop-number.invariant.1 all.0 all.1).1 in
     let start = ap (λ l. l.start) c.self.view_is in
-    let here = subst (λ s. c.loop-number.seat.me.0 ≡ new_view s all.0 (numbers_from number (c.args.passes - number))) (sym start) view in
-    (c.loop-number.invariant.0 ∙ sym (ap (λ l. l.name) c.self.view_is), omega (arith, words),
-      splits_as g.T.Keeps.stands g.T.Keeps.by g.T.Keeps.kind c.self.inside.table.shared.key c.loop-number.seat.id all.0 number (c.args.passes - number) c.loop-number.seat.me.0 (omega (arith, few)) here)
+    let here = subst (λ s. c.loop-number.seat.me.0 ≡ new_view s all.0 (numbers_from number (c.args.passes - number))) (sym start) view in (
+      c.loop-number.invariant.0 ∙ sym (ap (λ l. l.name) c.self.view_is),
+      omega (arith, words),
+      splits_as g.T.Keeps.stands g.T.Keeps.by g.T.Keeps.kind c.self.inside.table.shared.key c.loop-number.seat.id all.0 number (c.args.passes - number) c.loop-number.seat.me.0 (omega (arith, few)) here,
+    )
 
 pub invariant_of-push : goal.invariant_of-push
 invariant_of-push g c =
@@ -34,18 +36,19 @@ loop-number-preserved g c =
     let few = c.loop-number-test.true in
     let start = c.args.self.now.start in
     let name = c.args.self.now.name in
-    let split = c.split_seat-own.ensures in
-    (split.0 ∙ c.loop-number.invariant.0, λ k is.
-      let before = c.loop-number.invariant.1 k is in
-      let view = ap (λ m. m.0) before.1 in
-      let own = ap (λ m. m.0) split.4 ∙ first_view name start k _ number (c.args.passes - number) (omega (arith, few)) view in
-      let rest = rest_view name start k _ number (c.args.passes - number) (omega (arith, few)) view in
-      let pass = pass_seen name start k _ _ number (split.3 ∙ c.loop-number.invariant.0) own in
-      let count : c.args.passes - number - 1 ≡ c.args.passes - (number + 1) = omega arith in
-      (
-        c.in_ok-push.ensures.items ∙ (λ i. before.0 i ++ pass i ∷ []) ∙ one_more_at name start k number,
-        split.2 ∙ (λ i. (rest i, ap (λ m. m.1) before.1 i)) ∙ ap (λ n. (new_view start k (numbers_from (number + 1) n), [])) count,
-      ))
+    let split = c.split_seat-own.ensures in (
+      split.0 ∙ c.loop-number.invariant.0,
+      λ k is.
+          let before = c.loop-number.invariant.1 k is in
+          let view = ap (λ m. m.0) before.1 in
+          let own = ap (λ m. m.0) split.4 ∙ first_view name start k _ number (c.args.passes - number) (omega (arith, few)) view in
+          let rest = rest_view name start k _ number (c.args.passes - number) (omega (arith, few)) view in
+          let pass = pass_seen name start k _ _ number (split.3 ∙ c.loop-number.invariant.0) own in
+          let count : c.args.passes - number - 1 ≡ c.args.passes - (number + 1) = omega arith in (
+            c.in_ok-push.ensures.items ∙ (λ i. before.0 i ++ pass i ∷ []) ∙ one_more_at name start k number,
+            split.2 ∙ (λ i. (rest i, ap (λ m. m.1) before.1 i)) ∙ ap (λ n. (new_view start k (numbers_from (number + 1) n), [])) count,
+          ),
+    )
 
 pub invariant_of-push-2 : goal.invariant_of-push-2
 invariant_of-push-2 g c =

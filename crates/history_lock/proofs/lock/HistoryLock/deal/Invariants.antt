@@ -8,4 +8,4 @@ invariant-loop-number g l =
     let lock = l.fn.self in
     (l.seat.table_id ≡ lock.name)
     × ((k : g.row.T-Kind.Denot) → l.fn.seat.me ≡ (new_view lock.start k (numbers_from 0 l.fn.passes), [])
-      → (l.made.items ≡ passes_from lock.name lock.start k 0 l.number) × (l.seat.me ≡ (new_view lock.start k (numbers_from l.number (l.fn.passes - l.number)), [])))
+    → (l.made.items ≡ passes_from lock.name lock.start k 0 l.number) × (l.seat.me ≡ (new_view lock.start k (numbers_from l.number (l.fn.passes - l.number)), [])))

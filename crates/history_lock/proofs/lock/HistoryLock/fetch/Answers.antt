@@ -1,4 +1,4 @@
-use Rattle.std.proofs.Common.{◌≡◌, Some, ap, refl, sym, ◌∙◌, ◌∷◌}
+use Rattle.std.proofs.Common.{Some, ap, sym, ◌∙◌, ◌∷◌}
 use Rattle.atomic_table.specs.Table.{rest}
 use Rattle.history_lock.proofs.lock.HistoryLock.fetch.Goals as goal
 

@@ -1,4 +1,4 @@
-use Rattle.std.proofs.Common.{◌≡◌, Some, true, [], ◌∷◌, ap, refl, sym, ◌∙◌, subst, arith}
+use Rattle.std.proofs.Common.{◌≡◌, Some, true, [], ◌∷◌, ap, sym, ◌∙◌, subst, arith}
 use Rattle.history_lock.specs.Views.{blank, new_view, numbers_from}
 use Rattle.history_lock.proofs.Opening.{fetches_as, opens_as, opened_as}
 use Rattle.history_lock.proofs.lock.HistoryLock.new.Goals as goal

@@ -1,4 +1,4 @@
-use Rattle.std.proofs.Common.{ap, refl, sym, ◌∙◌, subst, arith}
+use Rattle.std.proofs.Common.{ap, sym, ◌∙◌, arith}
 use Rattle.history_lock.proofs.Keeping.{raises_as}
 use Rattle.history_lock.proofs.lock.HistoryLock.raise.Goals as goal
 
