@@ -1,15 +1,15 @@
 #!/usr/bin/env python3
 """Measures what the gate costs, crate by crate, and writes the processor seconds into docs/gate.txt.
 
-Usage: bench/gate.py NAME..     the crates named, in that order: name those below first, so that what stands below is kept
+Usage: bench/gate.py NAME..     the crates named; with no name every crate of crates.txt
 
-Each crate goes through `rt ci NAME` three times in a copy: without its tests and must-fail edits, with its tests, and with its edits. The seconds are
-those that the system counts for the commands themselves and all that they waited for. What an earlier run kept costs nothing, so measure a crate
-before anything else has passed it; seconds that are 0 are left as they stand in docs/gate.txt.
+Each crate goes through `rt ci NAME` in a copy, once those below it are done: without its tests and must-fail edits, with its tests, and with its
+edits. Two go side by side. The seconds are those that the system counts for the commands themselves and all that they waited for. What an earlier run
+kept costs nothing, so measure a crate before anything else has passed it; seconds that are 0 are left as they stand in docs/gate.txt.
 """
+from concurrent.futures import FIRST_COMPLETED, ThreadPoolExecutor, wait
 import os
 import re
-import resource
 import shutil
 import subprocess
 import sys
@@ -20,14 +20,15 @@ SECONDS = os.path.join(TOP, "docs", "gate.txt")
 
 
 def spent(command, where):
-    """Runs a command, and answers the processor seconds of it and its children, and whether it passed."""
-    before = resource.getrusage(resource.RUSAGE_CHILDREN)
-    ran = subprocess.run(command, cwd=where, stdout=subprocess.PIPE, stderr=subprocess.STDOUT, text=True)
-    after = resource.getrusage(resource.RUSAGE_CHILDREN)
-    passed = ran.returncode == 0
-    if not passed:
-        print(ran.stdout[-3000:])
-    return after.ru_utime - before.ru_utime + after.ru_stime - before.ru_stime, passed
+    """Runs a command, and answers the processor seconds of it and all that it waited for, and whether it passed."""
+    with tempfile.TemporaryFile("w+", errors="replace") as log:
+        ran = subprocess.Popen(command, cwd=where, stdout=log, stderr=subprocess.STDOUT)
+        _, status, used = os.wait4(ran.pid, 0)
+        ran.returncode = os.waitstatus_to_exitcode(status)
+        if ran.returncode:
+            log.seek(0)
+            print(log.read()[-3000:])
+    return used.ru_utime + used.ru_stime, ran.returncode == 0
 
 
 def copy_of(room):
@@ -105,15 +106,37 @@ def write(name, seconds):
             file.write(" ".join([crate, *map(str, rows[crate])]) + "\n")
 
 
+def libraries():
+    """The crates of crates.txt, each with those that its line names."""
+    rows = {}
+    for line in open(os.path.join(TOP, "crates.txt"), encoding="utf-8"):
+        line = line.split("#")[0]
+        if ":" in line:
+            name, rest = line.split(":", 1)
+            rows[name.split()[0]] = rest.split()
+    return rows
+
+
 def main():
-    failed = []
-    for name in sys.argv[1:]:
-        seconds, passed = measured(name)
-        print(name, *seconds, "" if passed else "FAILED", flush=True)
-        if passed:
-            write(name, seconds)
-        else:
-            failed.append(name)
+    below = libraries()
+    left, failed, running = sys.argv[1:] or list(below), set(), {}
+    with ThreadPoolExecutor(2) as lanes:
+        while left or running:
+            for name in list(left):
+                if failed & set(below[name]):
+                    print(name, "not measured: a crate below it failed", flush=True)
+                    failed.add(name)
+                    left.remove(name)
+                elif len(running) < 2 and not set(below[name]) & {*left, *running.values()}:
+                    left.remove(name)
+                    running[lanes.submit(measured, name)] = name
+            for done in wait(running, return_when=FIRST_COMPLETED).done:
+                name, (seconds, passed) = running.pop(done), done.result()
+                print(name, *seconds, "" if passed else "FAILED", flush=True)
+                if passed:
+                    write(name, seconds)
+                else:
+                    failed.add(name)
     return 1 if failed else 0
 
 

@@ -62,8 +62,9 @@ def long_clauses():
 
 
 def scattered_limits():
-    """Constants of three digits and more whose number stands in more than two files of code and definitions."""
-    holders, limits = collections.defaultdict(set), {}
+    """Constants of three digits and more whose number stands in two files of code and definitions besides those that declare one of that number."""
+    holders, limits = collections.defaultdict(set), collections.defaultdict(set)
+    homes = collections.defaultdict(set)
     for path in [*files(".rt", "src"), *files(".antt", "specs")]:
         crate = os.path.relpath(path, TOP).split(os.sep)[1]
         if os.path.basename(path) in tests_of(crate) or "Examples" in path:
@@ -71,11 +72,14 @@ def scattered_limits():
         text = re.sub(r"//.*|--.*", "", text_of(path))
         for number in re.findall(r"(?<![\w.\"])\d[\d_]{2,}(?![\w.])", text):
             holders[int(number.replace("_", ""))].add(os.path.relpath(path, TOP))
-        for name, number in re.findall(r"pub const (\w+): \w+ = ([\d_]+);", text):
-            limits[int(number.replace("_", ""))] = name
-    for number, name in sorted(limits.items()):
-        if len(holders[number]) > 2:
-            yield f"the limit {name}, {number}, stands in {len(holders[number])} files: {' '.join(sorted(holders[number]))}"
+        for reach, name, number in re.findall(r"(pub |)const (\w+): \w+ = ([\d_]+);", text):
+            homes[int(number.replace("_", ""))].add(os.path.relpath(path, TOP))
+            if reach:
+                limits[int(number.replace("_", ""))].add(name)
+    for number, names in sorted(limits.items()):
+        others = holders[number] - homes[number]
+        if len(others) > 1:
+            yield f"the limit {' '.join(sorted(names))}, {number}, stands also in {' '.join(sorted(others))}"
 
 
 def lines(paths):

@@ -17,4 +17,3 @@ pub use accepting::accept_ok;
 pub use contents::content_ok;
 pub use media::read_media;
 pub use request_model::{ContentVerdict, Media, Need, Param};
-

@@ -2,7 +2,7 @@ ghost use Rattle.std.specs.Prelude.{◌≡◌, ◌<◌, ◌+◌, ◌^◌, ◌&&�
 ghost use Rattle.std.specs.Iterator.{YieldsFirstRef, item_count};
 ghost use Rattle.request_model.specs.declared.forms.Quoting.TheVariants.{Outside};
 ghost use Rattle.request_model.specs.MediaTypes.{after_byte, is_outside, pieces_from, unquoted_pieces};
-ghost use Rattle.media_types.specs.PiecesLeft.{pieces_left};
+ghost use Rattle.media_types.specs.PiecesLeft.{IsCutAt, pieces_left};
 
 use request_model::Quoting;
 
@@ -53,7 +53,7 @@ fn is_cut(at: Quoting, byte: u8, separator: u8) -> bool
 fn cut_at(first: Quoting, separator: u8, text: &[u8]) -> Option<usize>
     ensures within { IfSome result (λ place. place < length text.now) }
     ensures fits { IfSome result (λ place. place + 1 < 2 ^ 64) }
-    ensures pieces { MatchOption result (pieces_from first separator text.now ≡ text.now ∷ []) (λ place. pieces_from first separator text.now ≡ take place text.now ∷ pieces_from (after_byte Outside separator) separator (drop (place + 1) text.now)) }
+    ensures pieces { MatchOption result (pieces_from first separator text.now ≡ text.now ∷ []) (IsCutAt first separator text.now) }
 {
     let mut at = first;
     for (place, byte) in text.iter().enumerate() {

@@ -30,7 +30,7 @@ use Rattle.http_messages.specs.declared.messages.Reply.{Reply}
 use Rattle.request_model.specs.Words.{result_map}
 use Rattle.resource_schema.specs.SchemaRules.{is_one_of}
 use Rattle.request_model.specs.Results.{◌>>=◌, ◌>>◌, err_if}
-use Rattle.error_objects.specs.Refusals.{refusal, at_header}
+use Rattle.error_objects.specs.Refusals.{refusal, at_header, IsSourced}
 use Rattle.json_forms.specs.Json.{json_of}
 use Rattle.request_model.specs.Targets.{split_target, target_of_path, allow_of, allows, need_of}
 use Rattle.request_model.specs.Negotiation.{content, acceptable}
@@ -160,3 +160,7 @@ plan_by (Err reply) = Fixed reply
 -- the plan of a message, in a schema
 abbrev pub planned : Schema → Message → Plan
 planned schema m = plan_by (task_or_reply schema m)
+
+-- a refusal of a request to a target names the source that its code asks for
+abbrev pub NamesItsSource : Schema → Message → Target → List ℕ → Type 0
+NamesItsSource schema message target query = (refusal : Refusal) → task_of schema message target query ≡ Err refusal → IsSourced (is_list_target target) refusal

@@ -2,7 +2,6 @@
 
 ghost use Rattle.std.specs.Prelude.{◌≡◌, Bool, Err, List, Ok, Some, true, ℕ};
 ghost use Rattle.error_objects.specs.declared.refusals.Refusal.{Refusal};
-ghost use Rattle.error_objects.specs.Refusals.{IsSourced};
 ghost use Rattle.serde_json.specs.Data.{Data};
 ghost use Rattle.http_messages.specs.declared.messages.Message.{Message};
 ghost use Rattle.json_forms.specs.Order.{IsInByteOrder};
@@ -15,7 +14,7 @@ ghost use Rattle.task_forms.specs.declared.tasks.Plan.TheVariants.{Run};
 ghost use Rattle.task_forms.specs.declared.tasks.Task.{Task};
 ghost use Rattle.task_forms.specs.Fit.{IsFit};
 ghost use Rattle.request_model.specs.Cursors.{IsPlaceOf, cursor_text, place_of_cursor};
-ghost use Rattle.request_model.specs.Plans.{is_list_target, planned, task_of};
+ghost use Rattle.request_model.specs.Plans.{NamesItsSource, planned};
 ghost use Rattle.request_model.specs.SchemaFile.{schema_of, SchemaNamesRise};
 ghost use Rattle.request_model.specs.Targets.{IsKnownTarget, target_of_path};
 
@@ -59,5 +58,5 @@ pub fn cursor_is_read_back()
 /// A refusal of a request to a target names the source that its code asks for (JSON:API 1.1, "Error Objects"). In a list
 /// of operations, what is not found is named.
 pub fn refusal_names_its_source()
-    ensures { (schema : List Kind) (message : Message) (target : Target) (query : List ℕ) (refusal : Refusal) → task_of schema message target query ≡ Err refusal → IsSourced (is_list_target target) refusal }
+    ensures { (schema : List Kind) (message : Message) (target : Target) (query : List ℕ) → NamesItsSource schema message target query }
 {}

@@ -15,6 +15,7 @@ use Rattle.world_cells.specs.World.{World, row_at}
 use Rattle.error_objects.specs.declared.refusals.Blame.{Blame}
 use Rattle.error_objects.specs.declared.refusals.Blame.TheVariants as blame
 use Rattle.error_objects.specs.declared.refusals.Refusal.{Refusal}
+use Rattle.error_objects.specs.Refusals.{IsSourced}
 use Rattle.error_objects.specs.ErrorReply.{error_reply}
 use Rattle.task_forms.specs.declared.operations.Operation.{Operation}
 use Rattle.task_forms.specs.declared.operations.Operation.TheVariants.{Create, Update, Remove, SetLinks, AddLinks, DropLinks}
@@ -23,10 +24,11 @@ use Rattle.task_forms.specs.declared.queries.Path.{Path}
 use Rattle.task_forms.specs.declared.queries.SortKey.{SortKey}
 use Rattle.task_forms.specs.declared.tasks.ReplyForm.{ReplyForm}
 use Rattle.task_forms.specs.declared.tasks.ReplyForm.TheVariants as reply_form
+use Rattle.task_forms.specs.declared.tasks.Fetch.{Fetch}
 use Rattle.task_forms.specs.declared.tasks.Task.TheVariants as task
 use Rattle.request_model.specs.Documents.{is_by_path}
 use Rattle.store_model.specs.Change.{Lids, refused, done}
-use Rattle.store_model.specs.Run.{Ran, operation_pointer, refusal_under}
+use Rattle.store_model.specs.Run.{Ran, run, operation_pointer, refusal_under}
 use Rattle.store_model.specs.Answer.{answer, effect}
 use Rattle.serde_json.specs.Data.{Data, null, array}
 use Rattle.serde_json.specs.View.{items_of}
@@ -37,9 +39,9 @@ use Rattle.resource_schema.specs.declared.targets.Target.{Target}
 use Rattle.resource_schema.specs.declared.targets.Target.TheVariants as target
 use Rattle.task_forms.specs.declared.queries.Query.{Query}
 use Rattle.store_model.specs.Resource.{Fields, object_of, identifier, linkage, is_shown, relationship_object, relationship_members, resource}
-use Rattle.store_model.specs.Document.{resources, meta_member}
+use Rattle.store_model.specs.Document.{resources, meta_member, document, primary_rows, included_rows}
 use Rattle.store_model.specs.declared.pages.Selected.{Selected}
-use Rattle.store_model.specs.Pages.{place_cmp, place_of, first_item, last_item, ends_at_cursor, is_range}
+use Rattle.store_model.specs.Pages.{page_of, place_cmp, place_of, first_item, last_item, ends_at_cursor, is_range}
 use Rattle.store_model.specs.Included.{IsReachedFrom}
 
 -- each item stands in a relation to all that follow it
@@ -259,3 +261,22 @@ ShowsResources target.Operations = ⊤
 -- A body that is empty, or the compact text of a value without floats, the members of whose objects stand in byte order.
 abbrev pub HasPlainBody : Reply → Type 0
 HasPlainBody reply = (reply.body ≡ []) ⊎ ((d : Data) × IsPlain d × (reply.body ≡ compact_text d))
+
+-- ---- what some laws say, in short
+
+-- each refusal of a run names the source that its code asks for
+abbrev pub NamesSources : Schema → ReplyForm → World → List Operation → Type 0
+NamesSources schema form w operations = (r : Refusal) → run schema form w operations ≡ Err r → IsSourced (is_list_form form) r
+
+-- the page of rows is what a page is
+abbrev pub PageIsExact : List SortKey → Page → List Row → Type 0
+PageIsExact sort page rows = IsPage sort page rows (page_of sort page rows)
+
+-- the rows of a document, its primary ones and its included ones, are fully linked
+abbrev pub DocumentIsLinked : Schema → World → Fetch → Type 0
+DocumentIsLinked schema w fetch = IsFullyLinked schema w fetch.query.fields (primary_rows schema w fetch.query fetch.target) (included_rows schema w fetch)
+
+-- the document shows these rows
+abbrev pub DocumentShows : Schema → World → Fetch → Type 0
+DocumentShows schema w fetch =
+    IfSome (document schema w fetch) (ShowsRows schema fetch.query (primary_rows schema w fetch.query fetch.target) (included_rows schema w fetch))

@@ -61,7 +61,7 @@ not_above high x = option_map_or (λ b. not (is_lt (id_cmp b x))) high true
 abbrev pub past_cursor : Page → List ℕ → Bool
 past_cursor page x = option_map_or (λ c. is_lt (id_cmp c.id x)) page.after true && option_map_or (λ c. is_lt (id_cmp x c.id)) page.before true
 
--- Without a row on the page: each id that is asked for, behind the one cursor and before the other as far as they are given. 
+-- Without a row on the page: each id that is asked for, behind the one cursor and before the other as far as they are given.
 -- Else from the item before the page to the item behind it.
 abbrev pub in_page_range : List Row → Page → List Row → List ℕ → Bool
 in_page_range all page [] x = past_cursor page x

@@ -1,11 +1,9 @@
-ghost use Rattle.std.specs.Prelude.{◌≡◌, List, ℕ, Bool, Result, Err, IfSome, IsTrue};
+ghost use Rattle.std.specs.Prelude.{◌≡◌, List, ℕ, Bool, IfSome, IsTrue};
 ghost use Rattle.std.specs.List.{AllByRecursion};
 ghost use Rattle.ident_rules.specs.declared.key.Key.{Key};
 ghost use Rattle.resource_schema.specs.declared.kinds.Kind.{Kind};
 ghost use Rattle.world_cells.specs.World.{World, linked};
 ghost use Rattle.world_cells.specs.declared.rows.Row.{Row};
-ghost use Rattle.error_objects.specs.Refusals.{IsSourced};
-ghost use Rattle.error_objects.specs.declared.refusals.Refusal.{Refusal};
 ghost use Rattle.task_forms.specs.Meaning.{IsLawful};
 ghost use Rattle.task_forms.specs.declared.operations.Operation.{Operation};
 ghost use Rattle.task_forms.specs.declared.queries.Page.{Page};
@@ -15,10 +13,10 @@ ghost use Rattle.task_forms.specs.declared.tasks.Fetch.{Fetch};
 ghost use Rattle.task_forms.specs.declared.tasks.ReplyForm.{ReplyForm};
 ghost use Rattle.store_model.specs.Valid.{IsValid, IsValidRow};
 ghost use Rattle.store_model.specs.Run.{run};
-ghost use Rattle.store_model.specs.Pages.{page_of, rows_of, rows_at, sorted};
+ghost use Rattle.store_model.specs.Pages.{rows_of, rows_at, sorted};
 ghost use Rattle.store_model.specs.declared.pages.Selected.{Selected};
 ghost use Rattle.store_model.specs.Included.{included};
-ghost use Rattle.store_model.specs.Document.{document, primary_rows, included_rows};
+ghost use Rattle.store_model.specs.Document.{document};
 ghost use Rattle.store_model.specs.Answer.{answer};
 ghost use Rattle.store_model.specs.Resource.{resource, Fields};
 ghost use Rattle.json_forms.specs.Plain.{IsPlain};
@@ -26,7 +24,7 @@ ghost use Rattle.resource_schema.specs.SchemaRules.{is_schema};
 ghost use Rattle.task_forms.specs.Fit.{IsFit};
 ghost use Rattle.task_forms.specs.declared.tasks.Task.{Task};
 ghost use Rattle.store_model.specs.StoreMeaning.{meaning_of};
-ghost use Rattle.store_model.specs.Laws.{AreApart, AreIncluded, AreRowsAt, AreRowsOf, IsAllOrNothing, IsPage, IsFullyLinked, IsPlaced, HasPlainBody, AreSorted, ShowsResources, ShowsRows, is_list_form};
+ghost use Rattle.store_model.specs.Laws.{AreApart, AreIncluded, AreRowsAt, AreRowsOf, IsAllOrNothing, NamesSources, PageIsExact, DocumentIsLinked, DocumentShows, IsPage, IsPlaced, HasPlainBody, AreSorted, ShowsResources, is_list_form};
 
 /// The store's tasks keep what every meaning of tasks keeps: the empty world is valid and has no cell, a fit task leads
 /// from a valid world to a valid one, and a fetch and a reply of status 400 or above change nothing.
@@ -43,7 +41,7 @@ pub fn lists_are_all_or_nothing()
 /// A refused change blames what the code of its refusal asks for (JSON:API 1.1, "Error Objects"), where the operations
 /// are those of a plain request or of a list, as the form of the reply says.
 pub fn refusals_are_sourced()
-    ensures { (schema : List Kind) (form : ReplyForm) (w : World) (operations : List Operation) (r : Refusal) → AllByRecursion (IsPlaced (is_list_form form)) operations → run schema form w operations ≡ Err r → IsSourced (is_list_form form) r }
+    ensures { (schema : List Kind) (form : ReplyForm) (w : World) (operations : List Operation) → AllByRecursion (IsPlaced (is_list_form form)) operations → NamesSources schema form w operations }
 {}
 
 /// What is computed as included is exactly what the paths reach from the primaries, less the primaries, each row once
@@ -68,16 +66,16 @@ pub fn sorting_is_exact()
 /// has room, and says whether a row stands before it and behind it and whether a range was cut short: of any rows that their ids tell apart, of a
 /// collection, and of what a relationship leads to (Cursor Pagination profile).
 pub fn pages_are_exact()
-    ensures rows { (sort : List SortKey) (page : Page) (rows : List Row) → AreApart rows → IsPage sort page rows (page_of sort page rows) }
-    ensures collections { (schema : List Kind) (w : World) (kind : ℕ) (sort : List SortKey) (page : Page) → IsValid schema w → IsPage sort page (rows_of w kind) (page_of sort page (rows_of w kind)) }
-    ensures relationships { (schema : List Kind) (w : World) (row : Row) (rel : ℕ) (sort : List SortKey) (page : Page) → IsValid schema w → IsPage sort page (rows_at w (linked schema row rel)) (page_of sort page (rows_at w (linked schema row rel))) }
+    ensures rows { (sort : List SortKey) (page : Page) (rows : List Row) → AreApart rows → PageIsExact sort page rows }
+    ensures collections { (schema : List Kind) (w : World) (kind : ℕ) (sort : List SortKey) (page : Page) → IsValid schema w → PageIsExact sort page (rows_of w kind) }
+    ensures relationships { (schema : List Kind) (w : World) (row : Row) (rel : ℕ) (sort : List SortKey) (page : Page) → IsValid schema w → PageIsExact sort page (rows_at w (linked schema row rel)) }
 {}
 
 /// A document shows each resource once, all of them rows of one world, and each that is included is reached from a primary
 /// by links that are shown, unless a field set leaves them out, between resources that it shows ("Compound Documents"); its resource objects are those of these rows.
 pub fn documents_are_fully_linked()
-    ensures linked { (schema : List Kind) (w : World) (fetch : Fetch) → IsValid schema w → IsFullyLinked schema w fetch.query.fields (primary_rows schema w fetch.query fetch.target) (included_rows schema w fetch) }
-    ensures shown { (schema : List Kind) (w : World) (fetch : Fetch) → ShowsResources fetch.target → IfSome (document schema w fetch) (ShowsRows schema fetch.query (primary_rows schema w fetch.query fetch.target) (included_rows schema w fetch)) }
+    ensures linked { (schema : List Kind) (w : World) (fetch : Fetch) → IsValid schema w → DocumentIsLinked schema w fetch }
+    ensures shown { (schema : List Kind) (w : World) (fetch : Fetch) → ShowsResources fetch.target → DocumentShows schema w fetch }
 {}
 
 /// The body of the reply to a fit task is empty, or the compact text of a value without floats, the members of whose
