@@ -135,9 +135,9 @@ pub same-told : (m : Meaning) (w : World) (planned : Message → Plan) (bytes t 
     → map (λ y. y.message) s.exchanges ≡ map (λ y. y.message) z.exchanges → map told es ≡ map told fs
 same-told m w planned bytes t u v x j k es fs a b one other p q s z e =
     answers-one m w es fs p q (
-      ap (map task_of) (all-entries planned 0 bytes t v j es a one s)
-      ∙ runs-tasks planned 0 _ s.exchanges j s.rest s.runs
-      ∙ ap (tasks_of planned) e
-      ∙ sym (runs-tasks planned 0 _ z.exchanges k z.rest z.runs)
-      ∙ ap (map task_of) (sym (all-entries planned 0 bytes u x k fs b other z))
+    ap (map task_of) (all-entries planned 0 bytes t v j es a one s)
+    ∙ runs-tasks planned 0 _ s.exchanges j s.rest s.runs
+    ∙ ap (tasks_of planned) e
+    ∙ sym (runs-tasks planned 0 _ z.exchanges k z.rest z.runs)
+    ∙ ap (map task_of) (sym (all-entries planned 0 bytes u x k fs b other z))
     )

@@ -131,7 +131,7 @@ pub record IsReadBy {S : Type 0} (told : S → SourceTold) (opener opener_now : 
 pub record PipesBy {S : Type 0} (told : S → SourceTold) (words : List (List ℕ)) (before now : Ends) (status : ℕ) : Type 0 where
   pub notes : IsTrue (is_pipe words) → Pipes notes before.source now.source before.sink now.sink status
   pub path : IfSome (path_of words)
-    (λ path. (read : SchemaRead) × IsReadBy told before.opener now.opener path read × PipesRead path read before.source now.source before.sink now.sink status)
+      (λ path. (read : SchemaRead) × IsReadBy told before.opener now.opener path read × PipesRead path read before.source now.source before.sink now.sink status)
   pub refuses : IsFalse (is_pipe words) → IsNone (path_of words) → Refuses (line (codes "words") []) before.sink now.sink status
 
 -- what the program comes to with its words: a notice, or the command

@@ -8,7 +8,7 @@ mod means;
 
 pub use checks::{Check, LOG_WINDOW};
 pub use laws::{
-    aged_is_one, commit_extends_history, conflict_is_one, log_tells_history, settle_extends_history,
-    trial_stays_right,
+    aged_is_one, commit_extends_history, conflict_is_one, log_tells_history,
+    settle_extends_history, trial_stays_right,
 };
 pub use means::Means;

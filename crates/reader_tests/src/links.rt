@@ -58,9 +58,7 @@ fn writes_links(rt: HostRuntime) {
 #[test]
 fn writes_a_query(rt: HostRuntime) {
     match link_with_query(rt.alloc()) {
-        Ok(link) => {
-            assert_eq!(rt; link.as_str(), "/articles?page%5Bafter%5D=a+b%26c&sort=")
-        }
+        Ok(link) => { assert_eq!(rt; link.as_str(), "/articles?page%5Bafter%5D=a+b%26c&sort=") }
         Err(NoMemory) => assert!(rt; false, "no memory"),
     }
 }

@@ -27,7 +27,11 @@ fn judged(alloc: Global, how: ContentVerdict) -> Result<(), StepError<Refusal>>
 {
     match how {
         ContentVerdict::Good => Ok(()),
-        ContentVerdict::BadType => Err(refuse_header(alloc, Code::UnsupportedMediaType, "Content-Type")),
+        ContentVerdict::BadType => Err(refuse_header(
+            alloc,
+            Code::UnsupportedMediaType,
+            "Content-Type",
+        )),
         ContentVerdict::BadEncoding => Err(refuse_header(
             alloc,
             Code::UnsupportedMediaType,

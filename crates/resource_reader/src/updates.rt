@@ -108,7 +108,12 @@ fn mismatch(alloc: Global, at: &str, name: NameText<'_>) -> StepError<Refusal>
 }
 
 /// The target that the data itself names.
-fn own_target(alloc: Global, kind: u32, at: &str, name: NameText<'_>) -> Result<Who, StepError<Refusal>>
+fn own_target(
+    alloc: Global,
+    kind: u32,
+    at: &str,
+    name: NameText<'_>,
+) -> Result<Who, StepError<Refusal>>
     ensures { Gives result (target_of_update None at.now (named_by_name kind name.entry)) }
 {
     let named = match name {

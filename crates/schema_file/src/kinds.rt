@@ -17,7 +17,9 @@ use document_parts::member_pointer;
 use ident_rules::{List, NoMemory, Text};
 use json_forms::member;
 use request_model::read_schema_keeps_rules;
-use resource_schema::{ATTRIBUTE_LIMIT, Attribute, KIND_LIMIT, Kind, RELATIONSHIP_LIMIT, Relationship, Schema, Why};
+use resource_schema::{
+    ATTRIBUTE_LIMIT, Attribute, KIND_LIMIT, Kind, RELATIONSHIP_LIMIT, Relationship, Schema, Why,
+};
 use serde_json::{Map, Value};
 use std::alloc::Global;
 
@@ -65,7 +67,12 @@ fn attributes_at(alloc: Global, at: &str, value: &Value) -> Result<List<Attribut
     ensures { Finds result (attributes_at at.now (view value.now)) }
 {
     let group = member_pointer(alloc, at, "attributes")?;
-    match fields_at(alloc, group.as_str(), ATTRIBUTE_LIMIT, member(value, "attributes"))? {
+    match fields_at(
+        alloc,
+        group.as_str(),
+        ATTRIBUTE_LIMIT,
+        member(value, "attributes"),
+    )? {
         Some(members) => read_attributes(alloc, group.as_str(), members),
         None => Ok(List::from_vec(Vec::new(alloc))),
     }
@@ -83,7 +90,12 @@ fn relationships_at(
     ensures { Finds result (relationships_at kinds.now (map (λ a. a.name) attributes.now) at.now (view value.now)) }
 {
     let group = member_pointer(alloc, at, "relationships")?;
-    match fields_at(alloc, group.as_str(), RELATIONSHIP_LIMIT, member(value, "relationships"))? {
+    match fields_at(
+        alloc,
+        group.as_str(),
+        RELATIONSHIP_LIMIT,
+        member(value, "relationships"),
+    )? {
         Some(members) => read_relationships(alloc, kinds, attributes, group.as_str(), members),
         None => Ok(List::from_vec(Vec::new(alloc))),
     }

@@ -13,6 +13,9 @@ mod tests;
 pub use desk::{Desk, DeskEnd};
 pub use operations::{LID_LIMIT, Member, Named, Operation, Where, Who};
 pub use planner::Planner;
-pub use queries::{DEFAULT_PAGE_SIZE, PAGE_SIZE_LIMIT, PATH_LENGTH_LIMIT, PATH_LIMIT, Page, Path, Query, SORT_LIMIT, SortKey};
+pub use queries::{
+    DEFAULT_PAGE_SIZE, PAGE_SIZE_LIMIT, PATH_LENGTH_LIMIT, PATH_LIMIT, Page, Path, Query,
+    SORT_LIMIT, SortKey,
+};
 pub use resource_schema::Target;
 pub use tasks::{Entry, Fetch, OPERATION_LIMIT, Plan, ReplyForm, Task};

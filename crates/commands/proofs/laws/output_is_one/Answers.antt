@@ -13,9 +13,9 @@ returns c = λ schema bytes a b j k one other p q.
     let planned = planned_so_far schema in
     let plans = plans_of planned in
     let messages = (c.requests_are_one.ensures 0 bytes _ _ _ _
-      (c.exchanges_are_requests.ensures.served plans 0 bytes p.taken p.worn j p.entries a one p.served)
-      (c.exchanges_are_requests.ensures.served plans 0 bytes q.taken q.worn k q.entries b other q.served)).0 in
+    (c.exchanges_are_requests.ensures.served plans 0 bytes p.taken p.worn j p.entries a one p.served)
+    (c.exchanges_are_requests.ensures.served plans 0 bytes q.taken q.worn k q.entries b other q.served)).0 in
     let same = same-told (desk_meaning schema) empty_world planned bytes p.taken q.taken p.worn q.worn j k p.entries q.entries a b one other p.legal.answers q.legal.answers p.served q.served messages in
     c.served_is_one.ensures plans 0 bytes p.taken q.taken p.worn q.worn j k (map told q.entries) a b one other
-      (subst (λ (l : List Entry). Served plans 0 bytes p.taken p.worn j l a (end_of one)) same (served-told planned 0 bytes p.taken p.worn j p.entries a one p.served))
-      (served-told planned 0 bytes q.taken q.worn k q.entries b other q.served)
+    (subst (λ (l : List Entry). Served plans 0 bytes p.taken p.worn j l a (end_of one)) same (served-told planned 0 bytes p.taken p.worn j p.entries a one p.served))
+    (served-told planned 0 bytes q.taken q.worn k q.entries b other q.served)
