@@ -1,3 +1,4 @@
 mod Fetched
-mod Tried
 mod Joining
+mod NoteTasks
+mod Tried
