@@ -3,6 +3,7 @@ use Rattle.std.specs.Prelude.{IfSome}
 use Rattle.resource_schema.specs.declared.schema.Schema.{Schema}
 use Rattle.http_model.specs.Served.{Served}
 use Rattle.world_cells.specs.World.{empty_world}
+use Rattle.task_forms.specs.Desks.{last_number}
 use Rattle.task_forms.specs.Meaning.{IsLegal}
 use Rattle.session_engine.specs.Plans.{plans_of}
 use Rattle.request_tasks.specs.BuiltPlans.{planned_so_far}
@@ -21,7 +22,8 @@ returns-in-Ok g c =
     let same : c.serve_counted-driven.new.desk.schema ≡ schema = c.serve_counted-driven.ensures.fixed ∙ (new_schema ∙ c.in-Ok.ensures) in
     let few = c.serve_counted-driven.ensures.few in
     let count : length begun.entries ≡ 0 + driven.entries = begun.stood.1 in
-    let unworn_is = unworn begun.worn (length begun.others) (let n : length begun.entries ≡ length begun.others = ap length own in omega (arith, few, count, n)) begun.wearing in
+    let unworn_is = unworn begun.worn (length begun.others) (let n : length begun.entries ≡ length begun.others = ap length own in omega (arith, few, count, n))
+    (λ worn_is. let at : 0 + length begun.others ≡ last_number = begun.wearing worn_is in omega (arith, at)) in
     inl (record {
       entries = begun.entries;
       legal = subst (λ (s : Schema). IsLegal (desk_meaning s) empty_world begun.entries) same (subst (IsLegal (desk_meaning c.serve_counted-driven.new.desk.schema) empty_world) (sym own) stood.legal);
