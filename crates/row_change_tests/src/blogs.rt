@@ -18,8 +18,6 @@ pub const ARTICLES: u32 = 0;
 
 pub const PEOPLE: u32 = 1;
 
-pub const AUTHOR: u32 = 0;
-
 pub const REPLIES: u32 = 1;
 
 fn name(text: &str) -> Name
