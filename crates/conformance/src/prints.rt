@@ -4,17 +4,6 @@ use std::io::{self, Write};
 /// So often a byte stands in a row where its count is printed.
 const LONG: usize = 100;
 
-/// How often the first byte stands at the front.
-fn run_length(bytes: &[u8]) -> usize {
-    match bytes.first() {
-        Some(first) => match bytes.iter().position(|byte| byte != first) {
-            Some(end) => end,
-            None => bytes.len(),
-        },
-        None => 0,
-    }
-}
-
 /// Prints one byte.
 fn print_byte<W: Write>(out: &mut W, byte: u8) -> io::Result<()> {
     match byte {
@@ -38,13 +27,23 @@ fn print_run<W: Write>(out: &mut W, byte: u8, count: usize) -> io::Result<()> {
     Ok(())
 }
 
-/// Prints an output.
+/// Whether a byte stands at a place.
+fn stands_at(bytes: &[u8], place: usize, byte: u8) -> bool {
+    match bytes.get(place) {
+        Some(found) => *found == byte,
+        None => false,
+    }
+}
+
+/// Prints an output, run by run of equal bytes.
 fn print_bytes<W: Write>(out: &mut W, bytes: &[u8]) -> io::Result<()> {
-    let mut rest = bytes;
-    while let Some(byte) = rest.first() {
-        let count = run_length(rest);
-        print_run(out, *byte, count)?;
-        rest = &rest[count..];
+    let mut count: usize = 0;
+    for (place, byte) in bytes.iter().enumerate() {
+        count = count.wrapping_add(1);
+        if !stands_at(bytes, place.wrapping_add(1), *byte) {
+            print_run(out, *byte, count)?;
+            count = 0;
+        }
     }
     Ok(())
 }

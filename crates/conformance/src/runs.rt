@@ -1,4 +1,6 @@
 //! A run of a case.
+ghost use Rattle.std.specs.Prelude.{◌<◌};
+
 use crate::cases::{Case, bytes_of};
 use commands::command;
 use ident_rules::{NoMemory, Text};
@@ -38,13 +40,23 @@ fn opener_of(alloc: Global, case: &Case) -> Result<MemoryOpener, NoMemory> {
     Ok(MemoryOpener::new(alloc, files, failing))
 }
 
+/// The greatest piece of a read: that of the case where it is more than 0, else the whole.
+fn piece_of(case: &Case) -> usize
+    ensures { 0 < result }
+{
+    match case.piece {
+        Some(piece) => { if piece > 0 { piece } else { WHOLE } }
+        None => WHOLE,
+    }
+}
+
 /// Runs the command of a case over ends in memory.
 pub fn run(alloc: Global, case: &Case) -> Result<Ran, NoMemory> {
     let words = words_of(alloc, case)?;
     let mut opener = opener_of(alloc, case)?;
     let mut source = MemorySource::new(
         bytes_of(alloc, &case.stdin)?,
-        case.piece.unwrap_or(WHOLE),
+        piece_of(case),
         Vec::from_slice(alloc, &case.failing_reads)?,
     );
     let mut sink = MemorySink::new(alloc, Vec::from_slice(alloc, &case.failing_writes)?);
