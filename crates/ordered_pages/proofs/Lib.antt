@@ -1,0 +1,9 @@
+pub mod Basics
+pub mod Blocks
+pub mod Filled
+pub mod Maps
+pub mod Prepared
+pub mod Sorts
+pub mod Trees
+pub mod Whole
+pub mod Written
