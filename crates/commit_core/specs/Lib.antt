@@ -1,0 +1,4 @@
+pub mod Attempts
+pub mod Ends
+pub mod Standing
+pub mod Tallies
