@@ -1,0 +1,5 @@
+mod FieldSets
+mod Items
+mod ObjectTexts
+pub mod PageTexts
+mod Shown
