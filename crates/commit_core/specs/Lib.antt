@@ -1,4 +1,5 @@
 pub mod Attempts
 pub mod Ends
+pub mod Serving
 pub mod Standing
 pub mod Tallies

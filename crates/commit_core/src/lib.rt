@@ -5,6 +5,7 @@
 mod attempts;
 mod cores;
 mod ends;
+mod services;
 mod settles;
 mod tallies;
 mod tries;
@@ -12,5 +13,6 @@ mod tries;
 pub use attempts::{Attempt, REFUSAL_LIMIT};
 pub use cores::{Core, Snapshot};
 pub use ends::{CommitEnd, Setback, SettleEnd};
+pub use services::Service;
 pub use tallies::{ENTRY_LIMIT, Tally};
 pub use tries::{RisingWrites, Trial, try_task};
