@@ -8,9 +8,11 @@ import os
 import re
 import sys
 
+import marked
+
 TOP = os.path.dirname(os.path.dirname(os.path.abspath(__file__)))
 README = os.path.join(TOP, "README.md")
-BEGIN, END = "<!-- the table of docs/codes.py -->", "<!-- its end -->"
+BEGIN = "<!-- the table of docs/codes.py -->"
 SOURCES = {
     "no_source": "-",
     "some_header": "the header",
@@ -35,13 +37,7 @@ def table():
 
 
 def main():
-    text = open(README, encoding="utf-8").read()
-    front, rest = text.split(BEGIN + "\n", 1)
-    old, behind = rest.split(END, 1)
-    if sys.argv[1:] == ["--write"]:
-        with open(README, "w", encoding="utf-8") as file:
-            file.write(front + BEGIN + "\n" + table() + END + behind)
-    elif old != table():
+    if not marked.keep(README, BEGIN, table(), sys.argv[1:] == ["--write"]):
         print("codes: the table of error codes in README.md is not up to date: run docs/codes.py --write")
         return 1
     print(f"codes: {len(list(rows()))} error codes")

@@ -10,9 +10,11 @@ import os
 import re
 import sys
 
+import marked
+
 TOP = os.path.dirname(os.path.dirname(os.path.abspath(__file__)))
 ARCHITECTURE = os.path.join(TOP, "docs", "ARCHITECTURE.md")
-BEGIN, END = "<!-- the table of docs/shape.py -->", "<!-- its end -->"
+BEGIN = "<!-- the table of docs/shape.py -->"
 LONGEST = 200
 
 
@@ -138,13 +140,7 @@ def main():
     bad = list(long_clauses())
     for line in [*bad, *scattered_limits(), *over_the_rule()]:
         print(f"shape: {line}")
-    text = text_of(ARCHITECTURE)
-    front, rest = text.split(BEGIN + "\n", 1)
-    old, behind = rest.split(END, 1)
-    if sys.argv[1:] == ["--write"]:
-        with open(ARCHITECTURE, "w", encoding="utf-8") as file:
-            file.write(front + BEGIN + "\n" + table() + END + behind)
-    elif old != table():
+    if not marked.keep(ARCHITECTURE, BEGIN, table(), sys.argv[1:] == ["--write"]):
         bad.append("table")
         print("shape: the table of docs/ARCHITECTURE.md is not up to date: run docs/shape.py --write")
     print(f"shape: {len(crates())} crates, {len(bad)} faults")
