@@ -1,4 +1,4 @@
-ghost use Rattle.std.specs.Prelude.{◌≡◌, ◌+◌, ◌<◌, ◌≤◌, ◌^◌, ℕ, true, [], length, IfOk};
+ghost use Rattle.std.specs.Prelude.{◌≡◌, ◌+◌, ◌*◌, ◌<◌, ◌≤◌, ◌^◌, ℕ, true, [], Some, length, IfOk};
 ghost use mathlib.Core.List.{IsPrefix};
 ghost use Rattle.ident_rules.specs.Owned.{is_among};
 ghost use Rattle.history_lock.specs.Making.{AreMade};
@@ -97,7 +97,8 @@ impl<S: Answers + Drop> Service<S> {
         (self.lock.leave(held), snapshot)
     }
 
-    /// Commits a trial of a world that the pass has seen, with the pass's least number, as `Core::commit` does. It may wait.
+    /// Commits a trial of a world that the pass has seen, with the pass's least number, as `Core::commit` does. It may wait. At most
+    /// two steps of work a written cell.
     pub fn commit<R: Wait>(
         &self,
         rt: &R,
@@ -117,6 +118,7 @@ impl<S: Answers + Drop> Service<S> {
         ensures done { IfDone result.1 (λ e. e ≡ record { by = pass.number; task = attempt.task; reply = trial.reply }) }
         ensures back { ComesBack attempt result.1 }
         ensures worn { WornAt result.0.view result.1 }
+        ensures work { work.new.done ≤ work.old.done + 2 * length trial.writes }
     {
         let mut held = self.lock.enter(rt, pass);
         let by = held.number();
@@ -158,6 +160,7 @@ impl<S: Answers + Drop> Service<S> {
         requires own { pass.lock ≡ self.lock.name }
         requires all { (n : ℕ) → n < self.lock.start.passes → is_among n pass.view.numbers ≡ true }
         ensures stands { StandsKept S.kind S.meaning result.0 pass.view.first pass.view.seen }
+        ensures kind { pass.view.kind ≡ Some (S.kind result.0.subject) }
         ensures mine { pass.view.mine ≡ pass.view.seen }
         ensures count { result.1 ≡ length pass.view.seen }
     {
