@@ -1,0 +1,8 @@
+mod Adding
+mod Linking
+mod Stepping
+mod Along
+mod Kept
+mod Finding
+mod KeyLooks
+mod Walking

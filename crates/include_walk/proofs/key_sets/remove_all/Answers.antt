@@ -1,0 +1,8 @@
+use Rattle.include_walk.proofs.Adding.{takes_nothing, takes_more}
+use Rattle.include_walk.proofs.key_sets.remove_all.Goals as goal
+
+pub loop-key-init : goal.loop-key-init
+loop-key-init c = takes_nothing c.args.set.now.keys
+
+pub loop-key-preserved : goal.loop-key-preserved
+loop-key-preserved c = takes_more c.args.set.now.keys c.loop-key.set.keys c.remove.new.set.keys c.args.keys.now c.loop-key.key-index c.key-item.result c.loop-key-test.true c.key-item.is c.loop-key.invariant c.remove.ensures

@@ -1,0 +1,17 @@
+mod Tests
+mod Own
+mod Firsts
+mod Lasts
+mod RangeRows
+mod ReadParts
+mod Scanning
+mod Beside
+mod Paged
+mod PageReach
+mod KeyOrders
+mod InOrder
+mod Sliced
+mod Rearranged
+mod Apart
+mod Told
+mod KeyLooks

@@ -1,0 +1,19 @@
+use Rattle.std.specs.Option.{option_map}
+use Rattle.world_cells.specs.declared.spans.Span.TheVariants as span
+use Rattle.view_reads.specs.Recording.{pair_now}
+use Rattle.page_select.specs.Ranges.{row_in}
+use Rattle.page_select.proofs.Firsts.{first_looks, first_sees, copy_begins}
+use Rattle.page_select.proofs.ReadParts.{first_stays}
+use Rattle.page_select.proofs.looks.first_row.Goals as goal
+
+pub returns-clause-sees : goal.returns-clause-sees
+returns-clause-sees g c = λ schema w now behind leads.
+    copy_begins now c.args.kind c.args.low.now c.args.high.now c.copied_row.result (row_in (option_map pair_now c.in_ok-found.found)) c.copied_row.ensures
+    (first_sees g.V.View.cells schema c.args.recorder.now c.args.kind c.args.low.now c.args.high.now c.first_in.result c.in_ok-found.found c.first_in.follows.lender-at-none c.in_ok-found.was c.first_in.follows.holds-at-none w now behind leads)
+
+pub returns-clause-reach : goal.returns-clause-reach
+returns-clause-reach g c = λ schema.
+    first_stays g.V.View.cells schema c.args.recorder.now c.args.kind c.args.low.now c.args.high.now c.first_in.result c.first_in.follows.lender-at-none c.first_in.follows.holds-at-none
+
+pub returns-clause-looks : goal.returns-clause-looks
+returns-clause-looks g c = first_looks g.V.View.cells c.args.recorder.now (span.Rows c.args.kind c.args.low.now c.args.high.now) c.first_in.result c.first_in.follows.lender-at-none c.first_in.follows.holds-at-none

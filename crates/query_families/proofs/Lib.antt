@@ -1,0 +1,11 @@
+mod FamilyNames
+mod Cuts
+mod Fields
+mod KeptPairs
+mod Listings
+mod NoQuery
+mod PairSteps
+mod SizeDigits
+mod SortKeys
+mod Stops
+mod Cursors

@@ -1,0 +1,3 @@
+pub mod PartsLeft
+pub mod Keys
+pub mod Pairs
