@@ -1,0 +1,3 @@
+mod Interleavings
+mod Legal
+mod RunLaws
