@@ -1,0 +1,96 @@
+//! Numbers, keys and write sets that are drawn.
+ghost use Rattle.std.specs.Prelude.{◌<◌, IfOk, map};
+ghost use Rattle.world_cells.specs.Reads.{AreRisingKeys};
+
+use ident_rules::{Id, Key, NoMemory};
+use std::alloc::Global;
+use view_reads::{CellMap, Recorder};
+use world_cells::{Cell, CellKey, Edge, Span, WriteSet};
+
+/// A source of numbers, which are the same in each run.
+#[derive(Drop)]
+pub struct Draws {
+    state: u64,
+}
+
+impl Draws {
+    /// The source of a run.
+    pub fn new(seed: u64) -> Draws {
+        Draws { state: seed }
+    }
+
+    /// The next number below another.
+    pub fn below(&mut self, limit: u64) -> u64
+        requires { 0 < limit }
+        ensures { result < limit }
+    {
+        self.state = self
+            .state
+            .wrapping_mul(6_364_136_223_846_793_005)
+            .wrapping_add(1_442_695_040_888_963_407);
+        (self.state >> 33) % limit
+    }
+}
+
+/// The key of a resource.
+pub fn key(kind: u32, number: u64) -> Key {
+    Key {
+        kind,
+        id: Id::of_number(number),
+    }
+}
+
+/// The key of a place: of a row, of a way back or of a counter.
+pub fn place(number: u64) -> CellKey {
+    match number % 8 {
+        0 => CellKey::Back {
+            to: key(0, number % 50),
+            from: key(1, number),
+            rel: 2,
+        },
+        1 => CellKey::Counter((number % 4_000_000_000) as u32),
+        _ => CellKey::Row(key((number % 3) as u32, number)),
+    }
+}
+
+/// A span that begins or ends at a place.
+pub fn span_at(number: u64, from_it: bool) -> Span {
+    let edge = Edge::Closed(Id::of_number(number));
+    if number % 8 == 0 {
+        Span::Backs {
+            to: key(0, number % 50),
+            after: Some((key(1, number), 1)),
+        }
+    } else if from_it {
+        Span::Rows {
+            kind: (number % 3) as u32,
+            low: edge,
+            high: Edge::End,
+        }
+    } else {
+        Span::Rows {
+            kind: (number % 3) as u32,
+            low: Edge::End,
+            high: edge,
+        }
+    }
+}
+
+/// A write set of 1 to 50 places, a quarter of which are removed.
+pub fn drawn_set(alloc: Global, draws: &mut Draws, places: u64) -> Result<WriteSet, NoMemory>
+    requires { 0 < places }
+    ensures { IfOk result (λ w. AreRisingKeys (map (λ x. x.key) w.cells)) }
+{
+    let mut recorder = Recorder::new(alloc, CellMap::new(alloc));
+    let count = 1 + draws.below(50);
+    for _ in 0..count {
+        let key = place(draws.below(places));
+        match draws.below(4) {
+            0 => recorder.remove(key)?,
+            1 => recorder.put(key, Cell::Back)?,
+            _ => recorder.put(key, Cell::Counter(draws.below(3)))?,
+        }
+    }
+    let (_, writes) = recorder.finish();
+    Ok(writes)
+}
