@@ -10,8 +10,6 @@ mod kept;
 mod last_writers;
 mod log;
 mod reads;
-#[cfg(test)]
-mod tests;
 
 pub use kept::{Kept, KeptEntry};
 pub use last_writers::LastWriters;

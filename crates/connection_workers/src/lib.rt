@@ -4,6 +4,3 @@
 mod workers;
 
 pub use workers::{Cause, QUOTA_LIMIT, WorkerEnd, serve_worker};
-
-#[cfg(test)]
-mod tests;

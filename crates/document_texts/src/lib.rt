@@ -18,6 +18,3 @@ pub use documents::{add_linkage_document, add_null_document, add_row_document};
 pub use linkages::add_linkage;
 pub use pages::{add_page_links, add_result_item};
 pub use resources::{add_resource, add_resource_item, add_resources};
-
-#[cfg(test)]
-mod tests;

@@ -5,8 +5,6 @@
 mod codes;
 mod refusals;
 mod replies;
-#[cfg(test)]
-mod tests;
 
 pub use codes::Code;
 pub use refusals::{Blame, Read, Refusal};

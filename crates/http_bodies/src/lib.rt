@@ -9,6 +9,3 @@ mod parts;
 mod trailers;
 
 pub use bodies::{BodyEnd, take_body};
-
-#[cfg(test)]
-mod tests;

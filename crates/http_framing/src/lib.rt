@@ -16,6 +16,3 @@ pub use heads::{HeadEnd, take_head};
 pub use http_messages::{Framing, HeadFault};
 pub use rules::{closes, expects_continue, is_head, judge_head};
 pub use sections::Section;
-
-#[cfg(test)]
-mod tests;

@@ -11,6 +11,3 @@ pub use drafts::TextDraft;
 pub use integers::add_int;
 pub use names::{id_text, name_text};
 pub use strings::{add_escaped, add_string};
-
-#[cfg(test)]
-mod tests;

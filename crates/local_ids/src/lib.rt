@@ -3,7 +3,5 @@
 #![tactic(auto)]
 
 mod bound;
-#[cfg(test)]
-mod tests;
 
 pub use bound::{Bind, LocalIds};

@@ -11,7 +11,5 @@ mod nodes;
 mod pages;
 mod shared;
 mod stops;
-#[cfg(test)]
-mod tests;
 
 pub use pages::{Pages, Ready};

@@ -9,8 +9,6 @@ mod members;
 mod paths;
 mod relationships;
 mod resources;
-#[cfg(test)]
-mod tests;
 
 pub use linkages::linkage_value;
 pub use paths::{collection_path, related_path, relationship_path, resource_path};

@@ -7,8 +7,6 @@ mod kinds;
 mod lookups;
 mod schema;
 mod targets;
-#[cfg(test)]
-mod tests;
 mod values;
 
 pub use faults::{SchemaFault, Why};

@@ -13,6 +13,3 @@ pub use http_messages::SessionEnd;
 pub use laws::sessions_go_on;
 pub use limits::Limits;
 pub use sessions::{Next, Pending, Session};
-
-#[cfg(test)]
-mod tests;

@@ -7,8 +7,6 @@ mod operations;
 mod planner;
 mod queries;
 mod tasks;
-#[cfg(test)]
-mod tests;
 
 pub use desk::{Desk, DeskEnd};
 pub use operations::{LID_LIMIT, Member, Named, Operation, Where, Who};

@@ -10,8 +10,6 @@ mod joining;
 mod merging;
 mod recorder;
 mod spans;
-#[cfg(test)]
-mod tests;
 mod views;
 mod writes;
 

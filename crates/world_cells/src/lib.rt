@@ -9,8 +9,6 @@ mod same;
 mod sets;
 mod slots;
 mod spans;
-#[cfg(test)]
-mod tests;
 
 pub use cells::{Cell, LAST_NEXT_ID};
 pub use keys::CellKey;
