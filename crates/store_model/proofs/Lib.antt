@@ -3,7 +3,7 @@ pub mod Examples
 mod FitRows
 mod FullLinkage
 mod Keeps
-mod Lawful
+pub mod Lawful
 mod LinkChanges
 mod ListExamples
 mod Links
