@@ -180,10 +180,6 @@ not_found_has_68_bytes : length (bare code.NotFound) ≡ 68
 unfolding digits escape_byte
 not_found_has_68_bytes = refl
 
-not_built_has_68_bytes : length (bare code.NotBuilt) ≡ 68
-unfolding digits escape_byte
-not_built_has_68_bytes = refl
-
 a_refused_content_type_has_129_bytes : length ((error_reply (at_header code.UnsupportedMediaType (codes "Content-Type"))).body) ≡ 129
 unfolding digits escape_byte
 a_refused_content_type_has_129_bytes = refl

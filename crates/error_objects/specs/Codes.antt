@@ -60,4 +60,3 @@ told code.IdsEnded = tell 403 (codes "ids-ended") (codes "No ids left") no_sourc
 told code.RelatedNotFound = tell 404 (codes "related-not-found") (codes "Related resource not found") some_pointer
 told code.TooManyMembers = tell 422 (codes "too-many-members") (codes "Too many members") some_pointer
 told code.StillReferenced = tell 409 (codes "still-referenced") (codes "Resource is still referenced") pointer_in_list
-told code.NotBuilt = tell 501 (codes "not-built") (codes "Not built") no_source

@@ -77,8 +77,6 @@ pub enum Code {
     TooManyMembers,
     /// A resource that another one still links to.
     StillReferenced,
-    /// A request of a form that is not built yet.
-    NotBuilt,
 }
 
 impl Code {
@@ -123,7 +121,6 @@ impl Code {
             Code::RelatedNotFound => 404,
             Code::TooManyMembers => 422,
             Code::StillReferenced => 409,
-            Code::NotBuilt => 501,
         }
     }
 
@@ -168,7 +165,6 @@ impl Code {
             Code::RelatedNotFound => "related-not-found",
             Code::TooManyMembers => "too-many-members",
             Code::StillReferenced => "still-referenced",
-            Code::NotBuilt => "not-built",
         }
     }
 
@@ -213,7 +209,6 @@ impl Code {
             Code::RelatedNotFound => "Related resource not found",
             Code::TooManyMembers => "Too many members",
             Code::StillReferenced => "Resource is still referenced",
-            Code::NotBuilt => "Not built",
         }
     }
 }

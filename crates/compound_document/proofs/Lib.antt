@@ -1,0 +1,9 @@
+mod Drafts
+mod Lists
+mod Listed
+mod PairPlaces
+mod Near
+mod Runs
+mod Within
+mod Answered
+mod Telling

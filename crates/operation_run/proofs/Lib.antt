@@ -1,0 +1,6 @@
+mod Drafts
+mod Reached
+mod KeyReach
+mod Steps
+mod Listed
+mod Single
