@@ -1,3 +1,2 @@
 mod Unworn
-mod Refusals
 mod OneOutput

@@ -1,4 +1,3 @@
 pub mod Notices
-pub mod SchemaFiles
 pub mod Pipes
 pub mod Outputs

@@ -1,8 +1,7 @@
 -- What a run of `pipe` comes to.
-use Rattle.std.specs.Prelude.{◌≡◌, ◌≢◌, ◌⊎◌, ℕ, ⊤, Bool, false, List, [], ◌∷◌, ◌++◌, codes, if◌then◌else◌, IsTrue, IsFalse, IsNone, IfSome, Option, Some, None, Result, Ok, Err}
+use Rattle.std.specs.Prelude.{◌≡◌, ◌≢◌, ◌⊎◌, ℕ, Bool, false, List, [], ◌∷◌, codes, if◌then◌else◌, IsTrue, IsFalse, IsNone, IfSome, Option, Some, None}
 use Rattle.std.specs.Str.{bytes_eq}
 use Rattle.std.specs.Io.KnownBytes.{Appends, Consumes}
-use Rattle.outer_ends.specs.declared.traits.Failed.{Failed}
 use Rattle.outer_ends.specs.Told.{SourceTold, SinkTold, OpenerTold}
 use Rattle.world_cells.specs.World.{empty_world}
 use Rattle.http_messages.specs.declared.ends.SessionEnd.{SessionEnd}
@@ -10,18 +9,18 @@ use Rattle.http_messages.specs.declared.ends.SessionEnd.TheVariants.{Closed, Ref
 use Rattle.http_model.specs.Served.{Served}
 use Rattle.resource_schema.specs.declared.schema.Schema.{Schema}
 use Rattle.resource_schema.specs.Kinds.{notes}
-use Rattle.resource_schema.specs.declared.faults.Why.{Why}
-use Rattle.schema_file.specs.FaultWords.{word_of}
 use Rattle.task_forms.specs.declared.tasks.Entry.{Entry}
 use Rattle.task_forms.specs.Meaning.{IsLegal}
-use Rattle.memory_desk.specs.Answered.{desk_meaning}
-use Rattle.request_tasks.specs.BuiltPlans.{planned_so_far}
+use Rattle.request_model.specs.Plans.{planned}
+use Rattle.store_model.specs.StoreMeaning.{meaning_of}
 use Rattle.session_engine.specs.Plans.{plans_of}
 use Rattle.session_engine.specs.Seen.{EndCause}
-use Rattle.commands.specs.declared.schemas.SchemaRead.{SchemaRead}
-use Rattle.commands.specs.declared.schemas.SchemaRead.TheVariants as schema
-use Rattle.commands.specs.Notices.{Writes, notice_for, Tells}
-use Rattle.commands.specs.SchemaFiles.{IsFound, IsOpened, HasMiss, HasFault}
+use Rattle.command_lines.specs.declared.schemas.SchemaRead.{SchemaRead}
+use Rattle.command_lines.specs.declared.schemas.SchemaRead.TheVariants as schema
+use Rattle.command_lines.specs.Lines.{Tells, Refuses, line, schema_line}
+use Rattle.command_lines.specs.SchemaFiles.{IsReadBy}
+use Rattle.replay_command.specs.Replays.{is_replay, ReplaysBy}
+use Rattle.commands.specs.Notices.{notice_for}
 
 -- the three ends of a command
 pub record Ends : Type 0 where
@@ -44,26 +43,11 @@ abbrev pub path_of : List (List ℕ) → Option (List ℕ)
 path_of (word ∷ path ∷ []) = if bytes_eq word (codes "pipe") then Some path else None
 path_of words = None
 
--- ---- refusals
-
--- the line for what is refused, and a text behind it
-abbrev pub line : List ℕ → List ℕ → List ℕ
-line what text = ((codes "jsonapid: " ++ what) ++ text) ++ 10 ∷ []
-
--- the line for a schema's fault
-abbrev pub schema_line : List ℕ → Why → List ℕ
-schema_line place why = (((codes "jsonapid: schema " ++ place) ++ codes " ") ++ word_of why) ++ 10 ∷ []
-
--- the line was written, or a proper prefix of it by a sink that failed
-abbrev pub Refuses : List ℕ → SinkTold → SinkTold → ℕ → Type 0
-Refuses = Writes 2
-
--- the exit status for a line that was sent
-abbrev pub refusal_status : Result ⊤ Failed → ℕ
-refusal_status (Ok sent) = 2
-refusal_status (Err failed) = 1
-
 -- ---- a session
+
+-- a subject's kind is its schema
+abbrev pub subject_kind : Schema → Schema
+subject_kind schema = schema
 
 -- the exit status for an end of the session
 abbrev pub status_of : SessionEnd → ℕ
@@ -80,7 +64,7 @@ status_of Worn = 5
 -- where its count rose.
 pub record Session (schema : Schema) (source source_now : SourceTold) (sink sink_now : SinkTold) (status : ℕ) : Type 0 where
   pub entries : List Entry
-  pub legal : IsLegal (desk_meaning schema) empty_world entries
+  pub legal : IsLegal (meaning_of schema) empty_world entries
   pub answered : ℕ
   pub end : SessionEnd
   pub not_worn : end ≢ Worn
@@ -89,7 +73,7 @@ pub record Session (schema : Schema) (source source_now : SourceTold) (sink sink
   pub left_less : Consumes source.left source_now.left bytes
   pub out : List ℕ
   pub written_more : Appends sink.written sink_now.written out
-  pub served : IfSome source.left (λ all. Served (plans_of (planned_so_far schema)) 0 all bytes false answered entries out end)
+  pub served : IfSome source.left (λ all. Served (plans_of (planned schema)) 0 all bytes false answered entries out end)
   pub status_is : status ≡ status_of end
   pub cause : EndCause source source_now sink sink_now end
 
@@ -119,14 +103,6 @@ PipesRead path (schema.Fault place why) source source_now sink sink_now status =
 PipesRead path schema.Failed source source_now sink sink_now status = (status ≡ 1) × Untouched source source_now sink sink_now
 PipesRead path schema.NoMemory source source_now sink sink_now status = (status ≡ 5) × Untouched source source_now sink sink_now
 
--- what the opener gave for the path, with its causes; it still tells the same files
-pub record IsReadBy {S : Type 0} (told : S → SourceTold) (opener opener_now : OpenerTold) (path : List ℕ) (read : SchemaRead) : Type 0 where
-  pub missed : HasMiss opener opener_now read
-  pub failed : HasFault opener.faults opener_now.faults read
-  pub files : opener_now.files ≡ opener.files
-  pub found : IsFound opener.files path read
-  pub opened : IsOpened told read
-
 -- what the command comes to with its words
 pub record PipesBy {S : Type 0} (told : S → SourceTold) (words : List (List ℕ)) (before now : Ends) (status : ℕ) : Type 0 where
   pub notes : IsTrue (is_pipe words) → Pipes notes before.source now.source before.sink now.sink status
@@ -134,7 +110,8 @@ pub record PipesBy {S : Type 0} (told : S → SourceTold) (words : List (List �
       (λ path. (read : SchemaRead) × IsReadBy told before.opener now.opener path read × PipesRead path read before.source now.source before.sink now.sink status)
   pub refuses : IsFalse (is_pipe words) → IsNone (path_of words) → Refuses (line (codes "words") []) before.sink now.sink status
 
--- what the program comes to with its words: a notice, or the command
+-- what the program comes to with its words: a notice, a replay, or a session
 pub record CommandBy {S : Type 0} (told : S → SourceTold) (words : List (List ℕ)) (before now : Ends) (status : ℕ) : Type 0 where
   pub notice : IfSome (notice_for words) (λ text. Tells text before.sink now.sink status)
-  pub pipes : IsNone (notice_for words) → PipesBy told words before now status
+  pub replays : IsTrue (is_replay words) → ReplaysBy words before.source now.source before.sink now.sink status
+  pub pipes : IsNone (notice_for words) → IsFalse (is_replay words) → PipesBy told words before now status

@@ -2,7 +2,7 @@ ghost use Rattle.std.specs.Prelude.{◌≡◌, ◌≤◌};
 ghost use Rattle.task_forms.specs.declared.tasks.Task.{Task as StoreTask};
 ghost use Rattle.task_forms.specs.Fit.{IsFit};
 ghost use Rattle.http_messages.specs.declared.limits.TheConstants.{MESSAGE_LIMIT};
-ghost use Rattle.request_tasks.specs.BuiltPlans.{IsBuiltTask, planned_so_far};
+ghost use Rattle.request_model.specs.Plans.{planned};
 ghost use Rattle.session_engine.specs.Seen.{ServesAll, ServesEnd, EndCause};
 
 use http_messages::SessionEnd;
@@ -22,10 +22,10 @@ pub(crate) fn serve_counted<S: Source, K: Sink, D: Desk>(
     sink: &mut K,
     desk: &mut D,
 ) -> Driven
-    requires fit { (t : StoreTask) → IsFit schema.now t → IsBuiltTask schema.now t → (D.meaning (D.fixed desk.old)).fit t }
+    requires fit { (t : StoreTask) → IsFit schema.now t → (D.meaning (D.fixed desk.old)).fit t }
     ensures fixed { D.fixed desk.new ≡ D.fixed desk.old }
     ensures few { result.entries ≤ MESSAGE_LIMIT }
-    ensures serves { ServesAll (planned_so_far schema.now) (D.stands desk.old) (D.stands desk.new) (S.told source.old) (S.told source.new) (K.told sink.old) (K.told sink.new) result }
+    ensures serves { ServesAll (planned schema.now) (D.stands desk.old) (D.stands desk.new) (S.told source.old) (S.told source.new) (K.told sink.old) (K.told sink.new) result }
     ensures cause { EndCause (S.told source.old) (S.told source.new) (K.told sink.old) (K.told sink.new) result.end }
 {
     let planner = LentTasks { schema };
@@ -45,11 +45,11 @@ pub fn serve_connection<S: Source, K: Sink, D: Desk>(
     sink: &mut K,
     desk: &mut D,
 ) -> SessionEnd
-    requires fit { (t : StoreTask) → IsFit schema.now t → IsBuiltTask schema.now t → (D.meaning (D.fixed desk.old)).fit t }
+    requires fit { (t : StoreTask) → IsFit schema.now t → (D.meaning (D.fixed desk.old)).fit t }
     ensures fixed { D.fixed desk.new ≡ D.fixed desk.old }
     // For any lists for which the desk stood: it stands for lists that begin with them, and what was written is what the
     // messages of the input are to be sent, by the entries that joined.
-    ensures serves { ServesEnd (planned_so_far schema.now) (D.stands desk.old) (D.stands desk.new) (S.told source.old) (S.told source.new) (K.told sink.old) (K.told sink.new) result }
+    ensures serves { ServesEnd (planned schema.now) (D.stands desk.old) (D.stands desk.new) (S.told source.old) (S.told source.new) (K.told sink.old) (K.told sink.new) result }
     ensures cause { EndCause (S.told source.old) (S.told source.new) (K.told sink.old) (K.told sink.new) result }
 {
     serve_counted(alloc, schema, limits, source, sink, desk).end

@@ -8,10 +8,8 @@ mod laws;
 mod notices;
 mod pipes;
 mod program;
-mod schemas;
 
 pub use connections::serve_connection;
 pub use laws::output_is_one;
 pub use pipes::pipe_command;
 pub use program::command;
-pub use schemas::{SchemaRead, read_schema_file};

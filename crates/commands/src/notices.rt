@@ -8,7 +8,7 @@ use ident_rules::Text;
 fn help_text() -> &'static str
     ensures { result.now ≡ help_text }
 {
-    "usage: jsonapid pipe [PATH]\n\nServes one connection of HTTP/1.1 from standard input to standard output, over a store that begins empty: of notes, or of the types of the schema file PATH.\n"
+    "usage: jsonapid pipe [PATH]\n       jsonapid replay\n\npipe serves one connection of HTTP/1.1 from standard input to standard output, over a store that begins empty: of notes, or of the types of the schema file PATH.\nreplay reads a script from standard input, takes its steps over connections that share one store, and reports the history that they made.\n"
 }
 
 /// What `--version` prints.

@@ -1,18 +1,21 @@
-ghost use Rattle.std.specs.Prelude.{◌≡◌, IsFalse, IsNone, [], codes};
+ghost use Rattle.std.specs.Prelude.{◌≡◌, IfOk, IsFalse, IsNone, [], codes};
 ghost use Rattle.std.specs.Option.{option_copied};
 ghost use Rattle.resource_schema.specs.Kinds.{notes};
-ghost use Rattle.commands.specs.Pipes.{is_pipe, path_of, status_of, line, schema_line, refusal_status, Refuses, Pipes, PipesRead, ends, PipesBy};
+ghost use Rattle.world_cells.specs.World.{empty_world};
+ghost use Rattle.store_model.specs.StoreMeaning.{meaning_of};
+ghost use Rattle.commit_core.specs.Standing.{StandsFor};
+ghost use Rattle.commands.specs.Pipes.{is_pipe, path_of, status_of, subject_kind, Session, Pipes, PipesRead, ends, PipesBy};
 
 use crate::connections::serve_counted;
-use crate::schemas::{SchemaRead, read_schema_file};
+use command_lines::{SchemaRead, read_schema_file, refuse, refuse_schema};
 use http_messages::SessionEnd;
 use ident_rules::{NoMemory, Text};
-use memory_desk::MemoryDesk;
-use outer_ends::{Failed, Opener, Sink, Source, send_all, send_more};
-use resource_schema::{Schema, Why};
-use schema_file::word_of;
+use local_desk::LocalDesk;
+use outer_ends::{Opener, Sink, Source};
+use resource_schema::Schema;
 use session_engine::Limits;
 use std::alloc::Global;
+use task_run::JsonSubject;
 
 /// Whether the words are `pipe` alone.
 fn is_pipe(words: &[Text]) -> bool
@@ -49,49 +52,39 @@ fn status_of(end: SessionEnd) -> u8
     }
 }
 
-/// The exit status for a line that was written.
-fn refusal_status(sent: Result<(), Failed>) -> u8
-    ensures { result ≡ refusal_status sent }
+/// A desk on a store of its own over a schema, which begins empty.
+fn own_desk(alloc: Global, schema: &Schema) -> Result<LocalDesk<JsonSubject>, NoMemory>
+    ensures subject { IfOk result (λ d. d.subject ≡ schema.now) }
+    ensures begins { IfOk result (λ d. StandsFor subject_kind meaning_of d 0 empty_world []) }
 {
-    match sent {
-        Ok(()) => 2,
-        Err(Failed) => 1,
-    }
+    LocalDesk::new(alloc, JsonSubject::new(schema.copy(alloc)?))
 }
 
-/// Writes the line of a refusal: what is refused, and a text behind it.
-fn refuse<K: Sink>(what: &str, text: &str, sink: &mut K) -> u8
-    ensures { Refuses (line what.now text.now) (K.told sink.old) (K.told sink.new) result }
+/// Serves one connection over a desk of that schema whose history is empty.
+fn pipe_over<S: Source, K: Sink>(
+    alloc: Global,
+    schema: &Schema,
+    desk: &mut LocalDesk<JsonSubject>,
+    source: &mut S,
+    sink: &mut K,
+) -> u8
+    requires subject { desk.old.subject ≡ schema.now }
+    requires begins { StandsFor subject_kind meaning_of desk.old 0 empty_world [] }
+    ensures { Session schema.now (S.told source.old) (S.told source.new) (K.told sink.old) (K.told sink.new) result }
 {
-    let begun = send_all(b"jsonapid: ", sink);
-    let named = send_more(begun, what.as_bytes(), sink);
-    let told = send_more(named, text.as_bytes(), sink);
-    let ended = send_more(told, b"\n", sink);
-    refusal_status(ended)
-}
-
-/// Writes the line of a schema's fault.
-fn refuse_schema<K: Sink>(place: &str, why: Why, sink: &mut K) -> u8
-    ensures { Refuses (schema_line place.now why) (K.told sink.old) (K.told sink.new) result }
-{
-    let begun = send_all(b"jsonapid: schema ", sink);
-    let placed = send_more(begun, place.as_bytes(), sink);
-    let parted = send_more(placed, b" ", sink);
-    let told = send_more(parted, word_of(why).as_bytes(), sink);
-    let ended = send_more(told, b"\n", sink);
-    refusal_status(ended)
+    let limits = Limits::standard();
+    let driven = serve_counted(alloc, schema, limits, source, sink, desk);
+    status_of(driven.end)
 }
 
 /// Serves one connection on a store of its own over a schema.
 fn pipe_on<S: Source, K: Sink>(alloc: Global, schema: &Schema, source: &mut S, sink: &mut K) -> u8
     ensures { Pipes schema.now (S.told source.old) (S.told source.new) (K.told sink.old) (K.told sink.new) result }
 {
-    match schema.copy(alloc) {
+    match own_desk(alloc, schema) {
         Ok(own) => {
-            let mut desk = MemoryDesk::new(alloc, own);
-            let limits = Limits::standard();
-            let driven = serve_counted(alloc, schema, limits, source, sink, &mut desk);
-            status_of(driven.end)
+            let mut desk = own;
+            pipe_over(alloc, schema, &mut desk, source, sink)
         }
         Err(NoMemory) => 5,
     }

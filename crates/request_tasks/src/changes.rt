@@ -1,4 +1,4 @@
-ghost use Rattle.std.specs.Prelude.{◌≡◌, [], IfOk, List as Listed, Result, Some, codes, false};
+ghost use Rattle.std.specs.Prelude.{◌≡◌, [], IfOk, List as Listed, Result, Some, codes};
 ghost use Rattle.std.specs.Option.{ok_or};
 ghost use Rattle.serde_json.specs.Find.{get};
 ghost use Rattle.serde_json.specs.View.{view};
@@ -6,19 +6,22 @@ ghost use Rattle.error_objects.specs.declared.refusals.Refusal.{Refusal};
 ghost use Rattle.error_objects.specs.Refusals.{IsRead};
 ghost use Rattle.resource_schema.specs.declared.targets.Target.TheVariants as target;
 ghost use Rattle.task_forms.specs.declared.operations.Member.{Member};
+ghost use Rattle.task_forms.specs.declared.operations.Operation.{Operation as StoreOperation};
 ghost use Rattle.task_forms.specs.declared.operations.Operation.TheVariants.{Remove};
 ghost use Rattle.task_forms.specs.declared.tasks.ReplyForm.TheVariants.{Empty};
 ghost use Rattle.request_model.specs.Documents.{bad_document, create_of, update_of};
-ghost use Rattle.request_model.specs.Plans.{body_value, by_path, change, change_of, change_without_query, data_pointer, is_list_target, links_operation, update_task};
+ghost use Rattle.request_model.specs.Plans.{body_value, by_path, change, change_of, change_without_query, data_pointer, links_operation, update_task};
 ghost use Rattle.request_model.specs.Words.{result_map};
 ghost use Rattle.resource_reader.specs.Reads.{IsReadVec};
 ghost use Rattle.ident_rules.specs.StepErrors.{Gives};
 
+use crate::parameters::check_query;
 use crate::replies::{refuse, refuse_document};
 use error_objects::{Code, Read, Refusal};
 use http_messages::Message;
 use ident_rules::{Key, List, NoMemory, StepError};
 use json_forms::{member, parse};
+use operation_reader::read_operations;
 use resource_reader::{read_create, read_members, read_update};
 use resource_schema::{Schema, Target};
 use serde_json::Value;
@@ -199,14 +202,36 @@ fn links_task(
     Ok(change(alloc, ReplyForm::Empty, operation)?)
 }
 
-/// The task of a method that is neither GET nor HEAD, at a target that is no list of operations.
+/// The operations that a reader of documents answers.
+fn operations_of(read: Read<Vec<Operation>>) -> Result<List<Operation>, StepError<Refusal>>
+    ensures { (d : Result (Listed StoreOperation) Refusal) → IsReadVec read d → Gives result d }
+{
+    match read {
+        Read::Good(operations) => Ok(List::from_vec(operations)),
+        Read::Refused(refusal) => Err(StepError::Because(refusal)),
+        Read::NoMemory => Err(StepError::NoMemory),
+    }
+}
+
+/// The task of a list of operations (Atomic Operations extension, "Processing").
+fn list_task(alloc: Global, schema: &Schema, message: &Message) -> Result<Task, StepError<Refusal>>
+    ensures { Gives result (change_of schema.now message.now.method message.now.body target.Operations) }
+{
+    let document = body_value(alloc, message.body.as_slice())?;
+    let operations = operations_of(read_operations(alloc, schema, &document))?;
+    Ok(Task::Change {
+        operations,
+        form: ReplyForm::Results,
+    })
+}
+
+/// The task of a method that is neither GET nor HEAD.
 fn change_of(
     alloc: Global,
     schema: &Schema,
     message: &Message,
     target: &Target,
 ) -> Result<Task, StepError<Refusal>>
-    requires { is_list_target target.now ≡ false }
     ensures { Gives result (change_of schema.now message.now.method message.now.body target.now) }
 {
     match target {
@@ -214,19 +239,20 @@ fn change_of(
         Target::Resource(key) => resource_task(alloc, schema, message, key),
         Target::Related(_, _) => Err(refuse(Code::MethodNotAllowed)),
         Target::Linkage(key, rel) => links_task(alloc, schema, message, key, *rel),
-        Target::Operations => unreachable!(),
+        Target::Operations => list_task(alloc, schema, message),
     }
 }
 
-/// The task of a method that is neither GET nor HEAD, without a query.
+/// The task of a method that is neither GET nor HEAD, which knows no query parameter.
 pub fn change_without_query(
     alloc: Global,
     schema: &Schema,
     message: &Message,
     target: &Target,
+    query: &str,
 ) -> Result<Task, StepError<Refusal>>
-    requires { is_list_target target.now ≡ false }
-    ensures { Gives result (change_without_query schema.now message.now.method message.now.body target.now []) }
+    ensures { Gives result (change_without_query schema.now message.now.method message.now.body target.now query.now) }
 {
+    check_query(alloc, query)?;
     change_of(alloc, schema, message, target)
 }

@@ -1,11 +1,13 @@
-ghost use Rattle.std.specs.Prelude.{◌≡◌, [], Ok};
-ghost use Rattle.resource_schema.specs.declared.schema.Schema.{Schema};
+ghost use Rattle.std.specs.Prelude.{◌≡◌};
 ghost use Rattle.request_model.specs.Plans.{fetch_of, is_fetch};
-ghost use Rattle.request_model.specs.Queries.{is_page};
+ghost use Rattle.ident_rules.specs.StepErrors.{Gives};
 
+use error_objects::{Read, Refusal};
+use ident_rules::StepError;
+use query_families::read_query;
 use resource_schema::{Schema, Target};
 use std::alloc::Global;
-use task_forms::{Fetch, Query, Task};
+use task_forms::{Fetch, Task};
 
 /// GET and HEAD (JSON:API 1.1, "Fetching Data").
 pub fn is_fetch(method: &str) -> bool
@@ -14,23 +16,21 @@ pub fn is_fetch(method: &str) -> bool
     method == "GET" || method == "HEAD"
 }
 
-/// Whether a target answers with a page.
-pub fn is_page(schema: &Schema, target: &Target) -> bool
-    ensures { result ≡ is_page schema.now target.now }
+/// The task of GET and HEAD (JSON:API 1.1, "Query Parameters").
+pub fn fetch_of(
+    alloc: Global,
+    schema: &Schema,
+    target: &Target,
+    query: &str,
+) -> Result<Task, StepError<Refusal>>
+    ensures { Gives result (fetch_of schema.now target.now query.now) }
 {
-    match target {
-        Target::Collection(_) => true,
-        Target::Related(key, rel) => schema.is_many(key.kind, *rel),
-        Target::Resource(_) | Target::Linkage(_, _) | Target::Operations => false,
+    match read_query(alloc, schema, target, query) {
+        Read::Good(query) => Ok(Task::Fetch(Fetch {
+            target: *target,
+            query,
+        })),
+        Read::Refused(refusal) => Err(StepError::Because(refusal)),
+        Read::NoMemory => Err(StepError::NoMemory),
     }
-}
-
-/// The task of GET and HEAD without a query.
-pub fn fetch_of(alloc: Global, target: &Target) -> Task
-    ensures { (schema : Schema) → fetch_of schema target.now [] ≡ Ok result }
-{
-    Task::Fetch(Fetch {
-        target: *target,
-        query: Query::none(alloc),
-    })
 }

@@ -2,26 +2,25 @@ ghost use Rattle.std.specs.Prelude.{◌≡◌, IfOk};
 ghost use Rattle.task_forms.specs.Fit.{IsFit};
 ghost use Rattle.task_forms.specs.declared.tasks.Task.{Task as StoreTask};
 ghost use Rattle.task_forms.specs.declared.tasks.Plan.TheVariants.{Run};
-ghost use Rattle.request_tasks.specs.BuiltPlans.{planned_so_far, IsBuiltTask};
+ghost use Rattle.request_model.specs.Plans.{planned};
 
-use crate::laws::{built_task_is_fit, planned_task_is_built};
-use crate::tasks::task_or_reply_so_far;
+use crate::tasks::task_or_reply;
 use http_messages::Message;
 use ident_rules::{NoMemory, StepError};
+use request_model::planned_task_is_fit;
 use resource_schema::Schema;
 use std::alloc::Global;
 use std::marker::Model;
 use task_forms::{Plan, Planner};
 
 /// What a message asks for, in a schema.
-fn planned_so_far(alloc: Global, schema: &Schema, message: &Message) -> Result<Plan, NoMemory>
-    ensures planned { IfOk result (λ p. p ≡ planned_so_far schema.now message.now) }
-    ensures fit { IfOk result (λ p. (t : StoreTask) → p ≡ Run t → IsFit schema.now t × IsBuiltTask schema.now t) }
+fn planned(alloc: Global, schema: &Schema, message: &Message) -> Result<Plan, NoMemory>
+    ensures planned { IfOk result (λ p. p ≡ planned schema.now message.now) }
+    ensures fit { IfOk result (λ p. (t : StoreTask) → p ≡ Run t → IsFit schema.now t) }
 {
     let _rules = schema.kinds();
-    built_task_is_fit();
-    planned_task_is_built();
-    match task_or_reply_so_far(alloc, schema, message) {
+    planned_task_is_fit();
+    match task_or_reply(alloc, schema, message) {
         Ok(task) => Ok(Plan::Run(task)),
         Err(StepError::Because(reply)) => Ok(Plan::Fixed(reply)),
         Err(StepError::NoMemory) => Err(NoMemory),
@@ -29,9 +28,6 @@ fn planned_so_far(alloc: Global, schema: &Schema, message: &Message) -> Result<P
 }
 
 /// Plans the messages of a schema. Contracts see the schema, as the list of its types.
-///
-/// Not built yet are queries, lists of operations, and GET and HEAD of a collection or of what a relationship to many
-/// leads to: they are answered 501 (RFC 9110, section 15.6.2).
 #[derive(Drop)]
 pub struct RequestTasks {
     schema: Schema,
@@ -63,14 +59,14 @@ impl RequestTasks {
 /// answers the first refusal, or the task (RFC 9110, section 15.5; JSON:API 1.1, "Server Responsibilities").
 impl Planner for RequestTasks {
     ghost use Rattle.task_forms.specs.Fit.{IsFit};
-    ghost use Rattle.request_tasks.specs.BuiltPlans.{IsBuiltTask, planned_so_far};
+    ghost use Rattle.request_model.specs.Plans.{planned};
 
-    ghost planned = { λ t m. planned_so_far t m };
+    ghost planned = { λ t m. planned t m };
 
-    ghost fit = { λ t task. IsFit t task × IsBuiltTask t task };
+    ghost fit = { λ t task. IsFit t task };
 
     fn plan(&self, alloc: Global, message: &Message) -> Result<Plan, NoMemory> {
-        planned_so_far(alloc, &self.schema, message)
+        planned(alloc, &self.schema, message)
     }
 }
 
@@ -83,13 +79,13 @@ pub struct LentTasks<'s> {
 
 impl<'s> Planner for LentTasks<'s> {
     ghost use Rattle.task_forms.specs.Fit.{IsFit};
-    ghost use Rattle.request_tasks.specs.BuiltPlans.{IsBuiltTask, planned_so_far};
+    ghost use Rattle.request_model.specs.Plans.{planned};
 
-    ghost planned = { λ t m. planned_so_far t.schema.now m };
+    ghost planned = { λ t m. planned t.schema.now m };
 
-    ghost fit = { λ t task. IsFit t.schema.now task × IsBuiltTask t.schema.now task };
+    ghost fit = { λ t task. IsFit t.schema.now task };
 
     fn plan(&self, alloc: Global, message: &Message) -> Result<Plan, NoMemory> {
-        planned_so_far(alloc, self.schema, message)
+        planned(alloc, self.schema, message)
     }
 }

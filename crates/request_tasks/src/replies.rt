@@ -1,7 +1,8 @@
 ghost use Rattle.std.specs.Prelude.{◌≡◌, [], Result};
+ghost use Rattle.error_objects.specs.declared.codes.Code.TheVariants as code;
 ghost use Rattle.error_objects.specs.declared.refusals.Refusal.{Refusal};
 ghost use Rattle.error_objects.specs.ErrorReply.{error_reply};
-ghost use Rattle.error_objects.specs.Refusals.{at_header, refusal};
+ghost use Rattle.error_objects.specs.Refusals.{at_header, at_parameter, refusal};
 ghost use Rattle.task_forms.specs.declared.tasks.Task.{Task};
 ghost use Rattle.request_model.specs.Documents.{bad_document};
 ghost use Rattle.request_model.specs.Plans.{not_allowed, or_reply};
@@ -40,6 +41,16 @@ pub fn refuse_header(alloc: Global, code: Code, name: &str) -> StepError<Refusal
         }),
         Err(NoMemory) => StepError::NoMemory,
     }
+}
+
+/// A refusal of the parameter of that name (JSON:API 1.1, "Query Parameters").
+pub fn refuse_parameter(name: Text) -> StepError<Refusal>
+    ensures { IsStop result (at_parameter code.UnknownParameter name) }
+{
+    StepError::Because(Refusal {
+        code: Code::UnknownParameter,
+        blame: Blame::Parameter(name),
+    })
 }
 
 /// A refusal of the whole body, which is no document of the kind that is asked for.

@@ -1,16 +1,15 @@
-ghost use Rattle.std.specs.Prelude.{◌≡◌, [], codes, false, if◌then◌else◌, not, true};
+ghost use Rattle.std.specs.Prelude.{codes, not};
 ghost use Rattle.error_objects.specs.declared.codes.Code.TheVariants as code;
 ghost use Rattle.error_objects.specs.Refusals.{at_header};
 ghost use Rattle.request_model.specs.Negotiation.{acceptable, content};
-ghost use Rattle.request_model.specs.Plans.{change_without_query, fetch_of, is_fetch, is_list_target, judged};
+ghost use Rattle.request_model.specs.Plans.{judged, task_of, task_or_reply};
 ghost use Rattle.request_model.specs.Results.{err_if};
 ghost use Rattle.request_model.specs.Targets.{allow_of, need_of};
-ghost use Rattle.request_tasks.specs.BuiltPlans.{is_built, task_or_reply_so_far, task_so_far};
 ghost use Rattle.ident_rules.specs.StepErrors.{Gives};
 
 use crate::changes::change_without_query;
-use crate::fetches::{fetch_of, is_fetch, is_page};
-use crate::replies::{not_allowed, or_reply, refuse, refuse_header, reply_with};
+use crate::fetches::{fetch_of, is_fetch};
+use crate::replies::{not_allowed, or_reply, refuse_header, reply_with};
 use error_objects::{Code, Refusal};
 use http_messages::{Field, Message, Reply};
 use ident_rules::StepError;
@@ -64,67 +63,32 @@ fn check_accept(alloc: Global, fields: &[Field]) -> Result<(), StepError<Refusal
     }
 }
 
-/// The request is a list of operations.
-fn is_list(target: &Target) -> bool
-    ensures { result ≡ is_list_target target.now }
-{
-    match target {
-        Target::Operations => true,
-        _ => false,
-    }
-}
-
-/// Whether requests of this form are built.
-fn is_built(schema: &Schema, target: &Target, method: &str, query: &str) -> bool
-    ensures built { result ≡ is_built schema.now target.now method.now query.now }
-    ensures empty { result ≡ true → query.now ≡ [] }
-    ensures no_list { result ≡ true → is_list_target target.now ≡ false }
-{
-    query.is_empty() && !is_list(target) && !(is_fetch(method) && is_page(schema, target))
-}
-
-/// The task of a request without a query.
-fn task_without_query(
-    alloc: Global,
-    schema: &Schema,
-    message: &Message,
-    target: &Target,
-) -> Result<Task, StepError<Refusal>>
-    requires { is_list_target target.now ≡ false }
-    ensures { Gives result (if is_fetch message.now.method then fetch_of schema.now target.now [] else change_without_query schema.now message.now.method message.now.body target.now []) }
-{
-    if is_fetch(message.method.as_str()) {
-        Ok(fetch_of(alloc, target))
-    } else {
-        change_without_query(alloc, schema, message, target)
-    }
-}
-
-/// Negotiation, then whether the form is built, then the body.
-fn task_so_far(
+/// Negotiation, then the query, then the body.
+fn task_of(
     alloc: Global,
     schema: &Schema,
     message: &Message,
     target: &Target,
     query: &str,
 ) -> Result<Task, StepError<Refusal>>
-    ensures { Gives result (task_so_far schema.now message.now target.now query.now) }
+    ensures { Gives result (task_of schema.now message.now target.now query.now) }
 {
     check_content(alloc, schema, message, target)?;
     check_accept(alloc, message.fields.as_slice())?;
-    if !is_built(schema, target, message.method.as_str(), query) {
-        return Err(refuse(Code::NotBuilt));
+    if is_fetch(message.method.as_str()) {
+        fetch_of(alloc, schema, target, query)
+    } else {
+        change_without_query(alloc, schema, message, target, query)
     }
-    task_without_query(alloc, schema, message, target)
 }
 
 /// Target, path and method, then the rest.
-pub fn task_or_reply_so_far(
+pub fn task_or_reply(
     alloc: Global,
     schema: &Schema,
     message: &Message,
 ) -> Result<Task, StepError<Reply>>
-    ensures { Gives result (task_or_reply_so_far schema.now message.now) }
+    ensures { Gives result (task_or_reply schema.now message.now) }
 {
     let Some((path, query)) = split_target(message.target.as_str()) else {
         return Err(reply_with(alloc, Code::BadTarget));
@@ -136,7 +100,7 @@ pub fn task_or_reply_so_far(
     if !allows(allow, message.method.as_str()) {
         return Err(not_allowed(alloc, allow));
     }
-    match task_so_far(alloc, schema, message, &target, query) {
+    match task_of(alloc, schema, message, &target, query) {
         Ok(task) => Ok(task),
         Err(stop) => Err(or_reply(alloc, &stop)),
     }

@@ -2,6 +2,7 @@ ghost use Rattle.std.specs.Prelude.{◌≡◌, None, Some};
 
 /// A place at which one worker serves: where it accepts connections, the gate of its desk, and while no worker runs its pass and
 /// the end of its worker.
+#[derive(Drop)]
 pub struct Station<L, G, P, E> {
     /// Where connections are accepted.
     pub listener: L,

@@ -1,6 +1,7 @@
 use Rattle.std.proofs.Common.{ℕ, List, refl, sym, subst}
-use Rattle.commands.specs.declared.schemas.SchemaRead.{SchemaRead}
-use Rattle.commands.specs.Pipes.{schema_line, Refuses, PipesRead}
+use Rattle.command_lines.specs.declared.schemas.SchemaRead.{SchemaRead}
+use Rattle.command_lines.specs.Lines.{schema_line, Refuses}
+use Rattle.commands.specs.Pipes.{PipesRead}
 use Rattle.commands.proofs.pipes.pipe_read.Goals as goal
 
 pub returns-in-Fault : goal.returns-in-Fault

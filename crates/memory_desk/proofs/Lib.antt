@@ -1,4 +1,0 @@
-mod Fetched
-mod Joining
-mod NoteTasks
-mod Tried

@@ -1,4 +1,0 @@
-pub mod Answered
-pub mod Alone
-pub mod Rows
-pub mod States

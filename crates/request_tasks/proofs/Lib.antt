@@ -1,3 +1,0 @@
-pub mod BuiltLemmas
-mod EitherLemmas
-pub mod NoQuery
