@@ -1,0 +1,4 @@
+mod Fits
+mod Items
+mod Placed
+mod ReportTexts
