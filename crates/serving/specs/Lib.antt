@@ -1,0 +1,4 @@
+pub mod Working
+pub mod WithinLaws
+pub mod Counts
+pub mod Serving
