@@ -61,6 +61,15 @@ fn add_links(draft: &mut TextDraft, links: &(Option<Text>, Option<Text>))
     add_page_links(draft, links.0.as_ref(), links.1.as_ref());
 }
 
+/// The room that the text of so many rows, and of those beside them, begins with; a longer one takes more.
+fn room_of(rows: usize, beside: &Option<List<Row>>) -> usize {
+    let more = match beside {
+        Some(list) => list.as_slice().len(),
+        None => 0,
+    };
+    rows.saturating_add(more).saturating_mul(ROOM)
+}
+
 /// Goes on with the document of a page.
 fn add_page(
     draft: &mut TextDraft,
@@ -95,7 +104,7 @@ pub fn page_text(
 {
     let links = page_links(alloc, path, query, page)?;
     let rows = page.rows.as_slice();
-    let mut draft = TextDraft::new(alloc);
+    let mut draft = TextDraft::with_room(alloc, room_of(rows.len(), beside));
     add_page(
         &mut draft,
         schema,
@@ -144,7 +153,7 @@ pub fn one_text(
 ) -> Result<Bytes, NoMemory>
     ensures { IfOk result (λ b. b ≡ compact_text (one_data schema.now query.now row.now beside.now)) }
 {
-    let mut draft = TextDraft::new(alloc);
+    let mut draft = TextDraft::with_room(alloc, room_of(1, beside));
     add_one(&mut draft, schema, query, row, beside);
     draft.finish()
 }
@@ -168,7 +177,7 @@ pub fn linkage_text(
 ) -> Result<Bytes, NoMemory>
     ensures { IfOk result (λ b. b ≡ compact_text (only (codes "data") (linkage schema.now target (unwrap_or (option_copied link.entry) no_link)))) }
 {
-    let mut draft = TextDraft::new(alloc);
+    let mut draft = TextDraft::with_room(alloc, ROOM);
     add_link(&mut draft, schema, target, link);
     draft.finish()
 }

@@ -5,39 +5,35 @@ ghost use Rattle.http_messages.specs.Draft.{AddsText, EndsText};
 use outer_ends::{Failed, Sink, send_more};
 use std::marker::Model;
 
-/// The most bytes that wait in a draft.
-pub const ROOM: usize = 4096;
-
-/// The end of a text, which waits to be sent, and whether its front was sent.
+/// The end of a text, which waits in the caller's room to be sent, and whether its front was sent.
 #[derive(Drop)]
-pub struct Draft {
-    bytes: [u8; ROOM],
+pub struct Draft<'a> {
+    room: &'a mut [u8],
     len: usize,
     sent: Result<(), Failed>,
 }
 
-impl Model for Draft {
-    ghost use Rattle.std.specs.Prelude.{◌≤◌, take};
-    ghost use Rattle.http_messages.specs.declared.draft.TheConstants.{ROOM};
+impl<'a> Model for Draft<'a> {
+    ghost use Rattle.std.specs.Prelude.{◌≤◌, length, take};
     ghost use Rattle.http_messages.specs.Draft.{DraftState};
 
     ghost Value = { DraftState };
 
     ghost view = { λ d. record {
-      held = take d.len d.bytes;
+      held = take d.len d.room.now;
       sent = d.sent;
     } };
 
-    ghost invariant = { λ d. d.len ≤ ROOM };
+    ghost invariant = { λ d. d.len ≤ length d.room.now };
 }
 
-impl Draft {
-    /// A draft of a text with nothing in it.
-    pub fn new() -> Draft
+impl<'a> Draft<'a> {
+    /// A draft of a text with nothing in it, whose pieces wait in that room.
+    pub fn new(room: &'a mut [u8]) -> Draft<'a>
         ensures { result ≡ record { held = []; sent = Ok tt } }
     {
         Draft {
-            bytes: [0; ROOM],
+            room,
             len: 0,
             sent: Ok(()),
         }
@@ -51,11 +47,14 @@ impl Draft {
         if self.sent.is_err() {
             return;
         }
-        if piece.len() <= ROOM - self.len {
-            self.bytes[self.len..self.len + piece.len()].copy_from_slice(piece);
-            self.len += piece.len();
+        let from = self.len;
+        let sent = self.sent;
+        let room = &mut *self.room;
+        if piece.len() <= room.len() - from {
+            room[from..from + piece.len()].copy_from_slice(piece);
+            self.len = from + piece.len();
         } else {
-            let front = send_more(self.sent, &self.bytes[..self.len], sink);
+            let front = send_more(sent, &room[..from], sink);
             self.sent = send_more(front, piece, sink);
             self.len = 0;
         }
@@ -63,12 +62,15 @@ impl Draft {
 
     /// Sends what waits, and tells whether the whole text was sent.
     pub fn finish<K: Sink>(self, sink: &mut K) -> Result<(), Failed>
-        ensures sends { EndsText (K.told sink.old) (K.told sink.new) self result }
-        ensures cause { KeepsCause (K.told sink.old).faults (K.told sink.new).faults self.sent result }
+        ensures sends { EndsText (K.told sink.old) (K.told sink.new) self.entry result }
+        ensures cause { KeepsCause (K.told sink.old).faults (K.told sink.new).faults self.entry.sent result }
     {
         if self.sent.is_err() {
             return self.sent;
         }
-        send_more(self.sent, &self.bytes[..self.len], sink)
+        let sent = self.sent;
+        let len = self.len;
+        let held = &*self.room;
+        send_more(sent, &held[..len], sink)
     }
 }

@@ -15,3 +15,6 @@ pub const TRAILER_LIMIT: usize = 16_384;
 
 /// The most messages of a connection: the reply to the last one closes it.
 pub const MESSAGE_LIMIT: u64 = 1_000_000;
+
+/// The most bytes of a reply that leaves a connection in one call of the sink.
+pub const REPLY_ROOM: usize = 16_384;

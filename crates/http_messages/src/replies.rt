@@ -10,8 +10,11 @@ use ident_rules::Text;
 use itoa::Buffer;
 use outer_ends::{Failed, Sink};
 
+/// The bytes of a reply that wait where no room is lent.
+const OWN_ROOM: usize = 1_024;
+
 /// Adds the lines that every reply has, and the one that tells what its body is.
-fn add_start<K: Sink>(draft: &mut Draft, reply: &Reply, sink: &mut K)
+fn add_start<K: Sink>(draft: &mut Draft<'_>, reply: &Reply, sink: &mut K)
     ensures text { AddsText (K.told sink.old) (K.told sink.new) draft.old draft.new (start_text reply.now) }
     ensures cause { KeepsCause (K.told sink.old).faults (K.told sink.new).faults draft.old.sent draft.new.sent }
 {
@@ -25,7 +28,7 @@ fn add_start<K: Sink>(draft: &mut Draft, reply: &Reply, sink: &mut K)
 }
 
 /// Adds the line that tells the body's length.
-fn add_length<K: Sink>(draft: &mut Draft, status: u16, length: usize, sink: &mut K)
+fn add_length<K: Sink>(draft: &mut Draft<'_>, status: u16, length: usize, sink: &mut K)
     ensures text { AddsText (K.told sink.old) (K.told sink.new) draft.old draft.new (length_line status length) }
     ensures cause { KeepsCause (K.told sink.old).faults (K.told sink.new).faults draft.old.sent draft.new.sent }
 {
@@ -40,7 +43,7 @@ fn add_length<K: Sink>(draft: &mut Draft, status: u16, length: usize, sink: &mut
 }
 
 /// Adds the line that tells a place.
-fn add_location<K: Sink>(draft: &mut Draft, location: &Option<Text>, sink: &mut K)
+fn add_location<K: Sink>(draft: &mut Draft<'_>, location: &Option<Text>, sink: &mut K)
     ensures text { AddsText (K.told sink.old) (K.told sink.new) draft.old draft.new (location_line location.now) }
     ensures cause { KeepsCause (K.told sink.old).faults (K.told sink.new).faults draft.old.sent draft.new.sent }
 {
@@ -54,12 +57,34 @@ fn add_location<K: Sink>(draft: &mut Draft, location: &Option<Text>, sink: &mut 
     }
 }
 
-/// Writes the reply: without its body for a HEAD request, and with the line that closes the
+/// Writes the reply, whose pieces wait in that room: without its body for a HEAD request, and with the line that closes the
 /// connection where it does.
 ///
-/// It takes no memory. A text of at most 4,096 bytes leaves in one piece; in a longer one the head
-/// leaves first, and then the body. After `Failed` a proper prefix of the text was written.
+/// It takes no memory. A text that the room holds leaves in one piece; of a longer one the head leaves first, and then the
+/// body. After `Failed` a proper prefix of the text was written.
 #[tactic(auto, unfolding(crate::specs::ReplyText::reply_text))]
+pub fn send_reply_by<K: Sink>(
+    room: &mut [u8],
+    reply: &Reply,
+    head_only: bool,
+    close: bool,
+    sink: &mut K,
+) -> Result<(), Failed>
+    ensures sends { Sends (K.told sink.old) (K.told sink.new) (reply_text reply.now head_only close) result }
+    ensures cause { HasCause (K.told sink.old).faults (K.told sink.new).faults result }
+{
+    let mut draft = Draft::new(room);
+    add_start(&mut draft, reply, sink);
+    add_length(&mut draft, reply.status, reply.body.as_slice().len(), sink);
+    add_location(&mut draft, &reply.location, sink);
+    draft.add(allow_of(reply.allow), sink);
+    draft.add(closing_of(close), sink);
+    draft.add(b"\r\n", sink);
+    draft.add(body_of(reply, head_only), sink);
+    draft.finish(sink)
+}
+
+/// Writes the reply as `send_reply_by` does, in a room of 1,024 bytes of its own. It takes no memory.
 pub fn send_reply<K: Sink>(
     reply: &Reply,
     head_only: bool,
@@ -69,13 +94,6 @@ pub fn send_reply<K: Sink>(
     ensures sends { Sends (K.told sink.old) (K.told sink.new) (reply_text reply.now head_only close) result }
     ensures cause { HasCause (K.told sink.old).faults (K.told sink.new).faults result }
 {
-    let mut draft = Draft::new();
-    add_start(&mut draft, reply, sink);
-    add_length(&mut draft, reply.status, reply.body.as_slice().len(), sink);
-    add_location(&mut draft, &reply.location, sink);
-    draft.add(allow_of(reply.allow), sink);
-    draft.add(closing_of(close), sink);
-    draft.add(b"\r\n", sink);
-    draft.add(body_of(reply, head_only), sink);
-    draft.finish(sink)
+    let mut room = [0; OWN_ROOM];
+    send_reply_by(&mut room, reply, head_only, close, sink)
 }

@@ -9,7 +9,9 @@ use crate::Limits;
 use crate::messages::{Taken, take_message};
 use error_objects::{Blame, Code, Refusal, error_reply};
 use http_framing::{Buffer, closes, is_head};
-use http_messages::{HeadFault, RefusedRest, Reply, SessionEnd, send_reply};
+use http_messages::{
+    HeadFault, REPLY_ROOM, RefusedRest, Reply, SessionEnd, send_reply, send_reply_by,
+};
 use http_model::read_stays;
 use ident_rules::NoMemory;
 use outer_ends::{Failed, Sink, Source};
@@ -46,13 +48,15 @@ pub enum Step {
     Ended(SessionEnd),
 }
 
-/// One connection, between two messages or at a task that has no reply yet. Contracts see how many messages were
-/// answered, the bytes that were read and not used, and how the reply that waits is to be written.
+/// One connection, between two messages or at a task that has no reply yet, with room in which its replies are put together.
+/// Contracts see how many messages were answered, the bytes that were read and not used, and how the reply that waits is to be
+/// written.
 #[derive(Drop)]
 pub struct Session {
     answered: u64,
     buffer: Buffer,
     pending: Option<Pending>,
+    room: Vec<u8>,
 }
 
 impl Model for Session {
@@ -124,6 +128,7 @@ impl Session {
             answered: 0,
             buffer: Buffer::new(alloc)?,
             pending: None,
+            room: vec![in alloc; 0u8; REPLY_ROOM]?,
         })
     }
 
@@ -135,7 +140,7 @@ impl Session {
         self.answered
     }
 
-    /// Writes a reply.
+    /// Writes a reply: in one call of the sink up to `REPLY_ROOM` bytes, else the head before the body.
     fn reply<K: Sink>(
         &mut self,
         pending: Pending,
@@ -147,7 +152,8 @@ impl Session {
         ensures cause { ReplyCause (K.told sink.old) (K.told sink.new) result }
     {
         self.pending = None;
-        match send_reply(reply, pending.head_only, pending.close, sink) {
+        let room = self.room.as_mut_slice();
+        match send_reply_by(room, reply, pending.head_only, pending.close, sink) {
             Err(Failed) => Some(SessionEnd::WriteFault),
             Ok(()) => {
                 self.answered += 1;

@@ -3,7 +3,7 @@ use Rattle.outer_ends.specs.Streams.{Sends}
 use Rattle.http_messages.specs.declared.messages.Reply.{Reply}
 use Rattle.http_messages.specs.ReplyText.{reply_text, start_text, length_line, location_line, end_line}
 use Rattle.http_messages.proofs.DraftLemmas.{drafts_none}
-use Rattle.http_messages.proofs.replies.send_reply.Goals as goal
+use Rattle.http_messages.proofs.replies.send_reply_by.Goals as goal
 
 -- the text of the pieces that were added
 abbrev added : Reply → ℕ → List ℕ → List ℕ → List ℕ → List ℕ
