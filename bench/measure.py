@@ -1,7 +1,10 @@
 #!/usr/bin/env python3
-"""What requests through `jsonapid pipe` cost, over a blog: instructions a request by callgrind, from two runs of which the
-longer has more of the requests, and seconds by the clock. Usage: bench/measure.py [PROGRAM]. It builds nothing: run the program once by
-`rt run` in crates/jsonapid first. Needs valgrind."""
+"""What requests through `jsonapid pipe` cost, over a blog: instructions a request by callgrind, allocations by memcheck, both from two runs of which one has the
+requests more, and microseconds by the clock.
+
+Usage: bench/measure.py [--quick] [PROGRAM]     --quick: instructions among 1,000 articles alone
+
+It prints the tables of docs/ARCHITECTURE.md. It builds nothing: run the program once by `rt run` in crates/jsonapid first. Needs valgrind. It takes some 20 minutes, and 2 with --quick."""
 import json
 import os
 import re
@@ -11,7 +14,8 @@ import tempfile
 import time
 
 HERE = os.path.dirname(os.path.abspath(__file__))
-PROGRAM = sys.argv[1] if len(sys.argv) > 1 else f"{HERE}/../crates/jsonapid/out/jsonapid"
+WORDS = [it for it in sys.argv[1:] if it != "--quick"]
+PROGRAM = WORDS[0] if WORDS else f"{HERE}/../crates/jsonapid/out/jsonapid"
 SCHEMA = {
     "types": {
         "articles": {
@@ -61,68 +65,137 @@ def blog(count):
     return people() + "".join(article(number) for number in range(count))
 
 
-def callgrind(work, text):
-    """Returns the instructions that serving the text takes."""
+class Draws:
+    """The draws of the command `workload`."""
+
+    def __init__(self, seed):
+        self.state = seed
+
+    def draw(self, below):
+        self.state = (self.state * 6364136223846793005 + 1442695040888963407) % 2**64
+        return (self.state >> 33) % below
+
+
+def patch(number, views):
+    return request("PATCH", f"/articles/{number}", {"data": {"type": "articles", "id": str(number), "attributes": {"views": views}}})
+
+
+def mix(draws, rows, number):
+    """Returns a request of the workload's mix over so many articles."""
+    kind = draws.draw(10)
+    if kind < 4:
+        return article(number)
+    if kind == 7:
+        return request("GET", "/articles?page[size]=20&include=author")
+    if kind == 9:
+        return request("POST", "/comments", {"data": {"type": "comments", "attributes": {"text": f"c{number}"}}})
+    at = draws.draw(rows) + 1
+    return patch(at, number) if kind < 6 else request("DELETE" if kind == 6 else "GET", f"/articles/{at}")
+
+
+def kinds(rows):
+    """Returns the kinds of requests over so many articles: a name, what makes the request of a number, and how many are measured."""
+    draws = Draws(7)
+    return [
+        ("GET of an article", lambda n: request("GET", f"/articles/{rows // 2}"), 1000),
+        ("GET of a person", lambda n: request("GET", "/people/p1"), 1000),
+        ("a GET that is not found", lambda n: request("GET", "/articles/5000000"), 1000),
+        ("POST of an article", article, 1000),
+        ("PATCH of an article", lambda n: patch(n % rows + 1, n), 1000),
+        ("DELETE of an article", lambda n: request("DELETE", f"/articles/{n % rows + 1}"), 1000),
+        ("page of 20 articles", lambda n: request("GET", "/articles?page[size]=20"), 100),
+        ("page of 20 articles with their authors", lambda n: request("GET", "/articles?page[size]=20&include=author"), 100),
+        ("list of ten additions", lambda n: listing(10), 50),
+        ("the workload's mix", lambda n: mix(draws, rows, n), 1000),
+    ]
+
+
+def run(work, words, text):
+    """Runs the program over the text, under those words, and returns what they said."""
     with open(f"{work}/in", "w", encoding="ascii", newline="") as it:
         it.write(text)
     with open(f"{work}/in", encoding="ascii") as it:
-        said = subprocess.run(
-            ["valgrind", "--tool=callgrind", f"--callgrind-out-file={work}/calls", PROGRAM, "pipe", f"{work}/schema"],
-            stdin=it,
-            stdout=subprocess.DEVNULL,
-            stderr=subprocess.PIPE,
-            text=True,
-            check=True,
-        ).stderr
-    total = int(re.search(r"Collected : (\d+)", said).group(1))
-    return total
+        return subprocess.run([*words, PROGRAM, "pipe", f"{work}/schema"], stdin=it, stdout=subprocess.DEVNULL, stderr=subprocess.PIPE, text=True, check=True).stderr
 
 
-def each(work, before, make, few, many):
-    """Returns the instructions of one request, from two runs behind the same requests before."""
-    less = callgrind(work, before + "".join(make(number) for number in range(few)))
-    more = callgrind(work, before + "".join(make(number) for number in range(many)))
-    return (more - less) // (many - few)
+def callgrind(work, text):
+    """Returns the instructions that serving the text takes."""
+    said = run(work, ["valgrind", "--tool=callgrind", f"--callgrind-out-file={work}/calls"], text)
+    return int(re.search(r"Collected : (\d+)", said).group(1))
+
+
+def allocations(work, text):
+    """Returns how often memory was asked for."""
+    said = run(work, ["valgrind", "--tool=memcheck", "--undef-value-errors=no"], text)
+    return int(re.search(r"total heap usage: ([\d,]+) allocs", said).group(1).replace(",", ""))
 
 
 def clock(work, text):
-    with open(f"{work}/in", "w", encoding="ascii", newline="") as it:
-        it.write(text)
-    best = None
+    """Returns the least seconds of three runs."""
+    took = []
     for _ in range(3):
-        with open(f"{work}/in", encoding="ascii") as it:
-            begun = time.perf_counter()
-            subprocess.run([PROGRAM, "pipe", f"{work}/schema"], stdin=it, stdout=subprocess.DEVNULL, check=True)
-            took = time.perf_counter() - begun
-        best = took if best is None else min(best, took)
-    return best
+        begun = time.perf_counter()
+        run(work, [], text)
+        took.append(time.perf_counter() - begun)
+    return min(took)
+
+
+def peak(work, text):
+    """Returns the most bytes that the program held."""
+    said = run(work, [sys.executable, "-c", PEAK], text)
+    return int(said) * 1024
+
+
+PEAK = "import resource, subprocess, sys; subprocess.run(sys.argv[1:], check=True); print(resource.getrusage(resource.RUSAGE_CHILDREN).ru_maxrss, file=sys.stderr)"
+
+
+def costs(work, measure, rows):
+    """Returns what a request of each kind costs over so many articles."""
+    before = blog(rows)
+    base = measure(work, before)
+    found = {}
+    for name, make, count in kinds(rows):
+        found[name] = (measure(work, before + "".join(make(number) for number in range(count))) - base) / count
+    return found
+
+
+def times(work, rows):
+    """Returns the microseconds that a request of each kind takes over so many articles."""
+    before = blog(rows)
+    base = clock(work, before)
+    found = {}
+    for name, make, count in kinds(rows):
+        found[name] = (clock(work, before + "".join(make(number) for number in range(count * 20))) - base) / (count * 20) * 1e6
+    return found
+
+
+def whole(work):
+    """Prints all of it."""
+    counts, more = costs(work, callgrind, 1000), costs(work, callgrind, 30_000)
+    asked = costs(work, allocations, 1000)
+    by_clock = [times(work, rows) for rows in (1000, 30_000, 300_000)]
+    print("| Request | Instructions, 1,000 articles | 30,000 | Allocations | Microseconds, 1,000 articles | 30,000 | 300,000 |\n|---|---|---|---|---|---|---|")
+    for name, cost in counts.items():
+        print(f"| {name} | {cost:,.0f} | {more[name]:,.0f} | {asked[name]:.1f} | " + " | ".join(f"{it[name]:.1f}" for it in by_clock) + " |")
+    thousand = blog(1000)
+    base = callgrind(work, thousand)
+    sorted_page = "".join(request("GET", "/articles?page[size]=20&sort=title") for _ in range(10))
+    print(f"\n| page of 20, sorted over 1,000 | {(callgrind(work, thousand + sorted_page) - base) / 10:,.0f} |")
+    print(f"| list of 1,000 additions | {(callgrind(work, thousand + listing(1000) * 2) - base) / 2:,.0f} |")
+    few, many = clock(work, blog(4000)), clock(work, blog(40000))
+    print(f"| 4,000 and 40,000 POSTs of articles | {few:.3f} s and {many:.3f} s, {many / few:.1f} times |")
+    print(f"| memory of an article, of 300,000 | {(peak(work, blog(300_000)) - peak(work, people())) / 300_000:,.0f} bytes |")
 
 
 def main():
     with tempfile.TemporaryDirectory() as work:
         with open(f"{work}/schema", "w", encoding="ascii") as it:
             json.dump(SCHEMA, it)
-        thousand = blog(1000)
-        rows = [
-            ("GET of an article, of 1,000", each(work, thousand, lambda n: request("GET", "/articles/500"), 100, 1000)),
-            ("GET of a person", each(work, thousand, lambda n: request("GET", "/people/p1"), 100, 1000)),
-            ("a GET that is not found", each(work, thousand, lambda n: request("GET", "/articles/5000"), 100, 1000)),
-            ("POST of an article, from 1,000 on", each(work, thousand, article, 100, 1000)),
-            ("page of 20 articles with their authors", each(work, thousand, lambda n: request("GET", "/articles?page[size]=20&include=author"), 20, 120)),
-            ("page of 20 articles", each(work, thousand, lambda n: request("GET", "/articles?page[size]=20"), 20, 120)),
-            ("page of 20, sorted over 1,000", each(work, thousand, lambda n: request("GET", "/articles?page[size]=20&sort=title"), 4, 14)),
-            ("list of ten additions", each(work, thousand, lambda n: listing(10), 10, 60)),
-            ("list of 1,000 additions", each(work, thousand, lambda n: listing(1000), 1, 3)),
-        ]
-        for name, cost in rows:
-            print(f"| {name} | {cost:,} |", flush=True)
-        page = "".join(request("GET", "/articles?page[size]=20&page[after]=WyI1MDAiXQ") for _ in range(40000))
-        for count in (1000, 100000):
-            before = blog(count)
-            took = (clock(work, before + page) - clock(work, before)) / 40000
-            print(f"| page of 20 in the order of ids, of {count:,} | {took * 1e6:.1f} us |", flush=True)
-        few, many = clock(work, blog(4000)), clock(work, blog(40000))
-        print(f"| 4,000 and 40,000 POSTs of articles | {few:.3f} s and {many:.3f} s, {many / few:.1f} times |", flush=True)
+        if "--quick" in sys.argv:
+            for name, cost in costs(work, callgrind, 1000).items():
+                print(f"| {name} | {cost:,.0f} |", flush=True)
+        else:
+            whole(work)
 
 
 if __name__ == "__main__":
