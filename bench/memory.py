@@ -26,26 +26,41 @@ PROGRAM = WORDS[0] if WORDS else f"{HERE}/../crates/jsonapid/out/jsonapid"
 UNAVAILABLE = b"HTTP/1.1 503 Service Unavailable\r\nVary: Accept\r\nContent-Length: 0\r\nConnection: close\r\n\r\n"
 SHIM = r"""
 #define _GNU_SOURCE
-#include <dlfcn.h>
+#include <errno.h>
+#include <fcntl.h>
 #include <stddef.h>
 #include <stdlib.h>
-#include <errno.h>
+#include <sys/mman.h>
+#include <unistd.h>
 extern void *__libc_malloc(size_t), *__libc_calloc(size_t, size_t), *__libc_realloc(void *, size_t), *__libc_memalign(size_t, size_t);
-static long count, at = -1;
+static long own, *count, at;
+static void begin(void) {
+    const char *number = getenv("FAILS_AT"), *file = getenv("COUNTS_TO");
+    int fd = file ? open(file, O_RDWR | O_CREAT | O_TRUNC, 0600) : -1;
+    count = &own;
+    at = number ? atol(number) : 0;
+    if (fd >= 0 && !ftruncate(fd, sizeof(long))) {
+        void *it = mmap(NULL, sizeof(long), PROT_READ | PROT_WRITE, MAP_SHARED, fd, 0);
+        if (it != MAP_FAILED) count = it;
+        close(fd);
+    }
+}
 static int fails(void) {
-    if (at < 0) { const char *it = getenv("FAILS_AT"); at = it ? atol(it) : 0; }
-    return __atomic_add_fetch(&count, 1, __ATOMIC_SEQ_CST) == at;
+    if (!count) begin();
+    return __atomic_add_fetch(count, 1, __ATOMIC_SEQ_CST) == at;
 }
 void *malloc(size_t n) { if (fails()) { errno = ENOMEM; return NULL; } return __libc_malloc(n); }
 void *calloc(size_t n, size_t m) { if (fails()) { errno = ENOMEM; return NULL; } return __libc_calloc(n, m); }
 void *realloc(void *p, size_t n) { if (fails()) { errno = ENOMEM; return NULL; } return __libc_realloc(p, n); }
 void *aligned_alloc(size_t a, size_t n) { if (fails()) { errno = ENOMEM; return NULL; } return __libc_memalign(a, n); }
 int posix_memalign(void **p, size_t a, size_t n) { if (fails()) return ENOMEM; *p = __libc_memalign(a, n); return *p ? 0 : ENOMEM; }
-__attribute__((destructor)) static void tell(void) {
-    const char *file = getenv("COUNTS_TO");
-    if (file) { extern int open(const char *, int, ...); extern int dprintf(int, const char *, ...); int fd = open(file, 577, 0600); dprintf(fd, "%ld\n", count); }
-}
 """
+
+
+def total_in(work):
+    """Returns how often memory was asked for in the last run."""
+    with open(f"{work}/count", "rb") as it:
+        return int.from_bytes(it.read(8), "little")
 
 
 def environment(work, number, counts=None):
@@ -72,27 +87,26 @@ def pipe(work, text, number):
 
 def check_pipe(work):
     """Returns how many calls failed in turn."""
-    text = measure.person(1) + measure.article(1) + measure.request("GET", "/articles/1?include=author") + measure.patch(1, 7)
+    text = measure.person(0) + measure.person(1) + measure.article(1) + measure.request("GET", "/articles/1?include=author") + measure.patch(1, 7)
     text += measure.request("GET", "/articles?page[size]=1&include=author") + measure.listing(2)
     whole, status = pipe(work, text, 0)
     replies = replies_in(whole)
-    assert status == 0 and len(replies) == 6 and all(it.startswith(b"HTTP/1.1 20") for it in replies), (status, whole)
-    with open(f"{work}/count", encoding="ascii") as it:
-        total = int(it.read())
-    sent = [0] * 7
+    assert status == 0 and len(replies) == 7 and all(it.startswith(b"HTTP/1.1 20") for it in replies), (status, whole)
+    total = total_in(work)
+    sent = [0] * 8
     for number in range(1, total + 1):
         output, status = pipe(work, text, number)
         found = replies_in(output)
         if output == whole:
             # (a call whose failure is answered in another way, as a smaller buffer, or one of the system's own)
             assert status == 0, (number, status)
-            sent[6] += 1
+            sent[7] += 1
             continue
         assert status == 5, (number, status, output)
         if found:
             assert found[-1] == UNAVAILABLE and found[:-1] == replies[: len(found) - 1], (number, output)
         sent[max(len(found) - 1, 0)] += 1
-    print(f"pipe: {total} calls failed in turn; replies before the 503 text: " + ", ".join(f"{count} times {it}" for it, count in enumerate(sent[:6]) if count) + f"; {sent[6]} made no difference")
+    print(f"pipe: {total} calls failed in turn; replies before the 503 text: " + ", ".join(f"{count} times {it}" for it, count in enumerate(sent[:7]) if count) + f"; {sent[7]} made no difference")
 
 
 def ask(port, text):
@@ -137,14 +151,14 @@ def check_serve(work):
     change = measure.request("POST", "/operations", {"atomic:operations": [{"op": "add", "data": {"type": "people", "attributes": {"name": "n"}}}, {"op": "add", "data": {"type": "articles", "attributes": {"title": "t"}}}]}, measure.ATOMIC)
     done, after, status = serve(work, 0, change)
     assert status == 0 and done.startswith(b"HTTP/1.1 200"), (status, done)
+    total = total_in(work)
     _, before, _ = serve(work, 0, measure.request("GET", "/people"))
-    with open(f"{work}/count", encoding="ascii") as it:
-        total = int(it.read())
     kinds = {"as without": 0, "503, and the store as before": 0, "503 to the reader": 0, "no server": 0}
-    for number in range(1, total + 400):
+    for number in range(1, total + 1):
         first, then, status = serve(work, number, change)
         if not first:
-            assert status == 5, (number, status)
+            # (1 where it ran out while the sockets were made: the server then says that it cannot listen)
+            assert status in (1, 5), (number, status)
             kinds["no server"] += 1
         elif first == UNAVAILABLE:
             assert then == before, (number, then)

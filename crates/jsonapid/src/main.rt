@@ -13,7 +13,7 @@ use socket_stations::stations_at;
 use std::alloc::Global;
 use std::env::{self, Env};
 use std::fs::Files;
-use std::io;
+use std::io::{self, ErrorKind};
 use std::net::{Net, TcpListener, TcpStream};
 use std::process::ExitCode;
 use std::sync::Wait;
@@ -24,8 +24,10 @@ use std::time::Clock;
 /// words are.
 fn words(rt: &(impl Env + AllocGlobal), alloc: Global) -> Result<Vec<Text>, NoMemory> {
     let mut words = Vec::new(alloc);
-    let Ok(all) = env::args(rt) else {
-        return Ok(words);
+    let all = match env::args(rt) {
+        Ok(all) => all,
+        Err(error) if error.kind() == ErrorKind::OutOfMemory => return Err(NoMemory),
+        Err(_) => return Ok(words),
     };
     for word in all.skip(1) {
         words.push(Text::from_string(word))?;
