@@ -1,1 +1,4 @@
 mod Joined
+mod Sessions
+mod OnLiterals
+mod BlogRead

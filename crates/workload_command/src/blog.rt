@@ -6,7 +6,7 @@ ghost use Rattle.workload_command.specs.Blog.{blog_text};
 use ident_rules::NoMemory;
 use json_forms::parse;
 use resource_schema::Schema;
-use schema_file::read_schema;
+use schema_file::{SchemaEnd, read_schema};
 use std::alloc::Global;
 
 /// The text of the schema: articles, comments and people.
@@ -21,10 +21,11 @@ pub fn blog_schema(alloc: Global) -> Result<Schema, NoMemory>
     ensures { IfOk result (λ s. schema_of_text blog_text ≡ Ok s) }
 {
     let Some(value) = parse(alloc, blog_text().as_bytes())? else {
-        return Err(NoMemory);
+        unreachable!()
     };
     match read_schema(alloc, &value) {
         Ok(schema) => Ok(schema),
-        Err(_) => Err(NoMemory),
+        Err(SchemaEnd::NoMemory) => Err(NoMemory),
+        Err(SchemaEnd::Fault { .. }) => unreachable!(),
     }
 }
