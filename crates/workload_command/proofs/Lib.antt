@@ -2,3 +2,4 @@ mod Joined
 mod Sessions
 mod OnLiterals
 mod BlogRead
+mod Examples
