@@ -1,5 +1,5 @@
 -- The text of the blog is that of a schema.
-use Rattle.std.proofs.Common.{◌≡◌, ◌∙◌, Bool, true, false, None, Some, Err, is_some, is_ok, refl, ap, sym}
+use Rattle.std.proofs.Common.{◌≡◌, ◌∙◌, true, None, Some, Err, is_some, is_ok, refl, ap, sym}
 use Rattle.std.proofs.lemmas.Bool.{false≢true}
 use Rattle.std.specs.Prelude.{codes}
 use Rattle.std.specs.Option.{ok_or}

@@ -1,5 +1,5 @@
 -- Words and lines, computed by the definitions.
-use Rattle.std.proofs.Common.{◌≡◌, ℕ, true, false, List, [], ◌∷◌, Some, None, refl}
+use Rattle.std.proofs.Common.{◌≡◌, ℕ, false, List, [], ◌∷◌, Some, None, refl}
 use Rattle.std.specs.Prelude.{codes, Option}
 use Rattle.std.specs.Fmt.{digits}
 use Rattle.workload_command.specs.declared.tallies.Tally.{Tally}

@@ -1,11 +1,10 @@
 -- A session makes few entries, so its counts are exact and its store is not worn.
-use Rattle.std.proofs.Common.{◌≡◌, ℕ, ◌+◌, ◌-◌, ◌^◌, ◌≤◌, ◌==◌, Bool, true, false, List, length, not, refl, arith, min}
-use Rattle.std.specs.Prelude.{IsTrue, filter}
+use Rattle.std.proofs.Common.{◌≡◌, ℕ, ◌≤◌, ◌==◌, Bool, true, false, List, length, not, refl, arith}
+use Rattle.std.specs.Prelude.{IsTrue}
 use Rattle.std.proofs.Math.Nat.{min-eq_left}
 use Rattle.std.proofs.lemmas.List.Filters.{length-filter_both}
 use Rattle.task_forms.specs.declared.tasks.Entry.{Entry}
 use Rattle.task_forms.specs.Desks.{last_number}
-use Rattle.workload_command.specs.declared.tallies.Tally.{Tally}
 use Rattle.workload_command.specs.Tallies.{capped, most, replies_with, tally_of}
 
 pub unworn : (worn : Bool) (count : ℕ) → count ≤ 1000000 → (IsTrue worn → count ≡ last_number) → worn ≡ false

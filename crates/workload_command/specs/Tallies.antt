@@ -1,5 +1,5 @@
 -- Replies counted by their statuses (of this project).
-use Rattle.std.specs.Prelude.{ℕ, ◌+◌, ◌-◌, ◌^◌, ◌==◌, Bool, List, length, min, filter, if◌then◌else◌}
+use Rattle.std.specs.Prelude.{ℕ, ◌-◌, ◌^◌, ◌==◌, Bool, List, length, min, filter, if◌then◌else◌}
 use Rattle.outer_ends.specs.Causes.{one_more}
 use Rattle.task_forms.specs.declared.tasks.Entry.{Entry}
 use Rattle.workload_command.specs.declared.tallies.Tally.{Tally}

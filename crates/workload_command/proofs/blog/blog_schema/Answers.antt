@@ -1,10 +1,9 @@
-use Rattle.std.proofs.Common.{◌≡◌, ◌∙◌, Some, ap, subst, sym}
+use Rattle.std.proofs.Common.{◌∙◌, ap, subst, sym}
 use Rattle.std.specs.Option.{option_map}
 use Rattle.serde_json.specs.View.{view}
 use Rattle.json_forms.specs.Json.{json_of}
 use Rattle.request_model.specs.SchemaFile.{schema_of}
 use Rattle.schema_file.specs.Finds.{IsEnd}
-use Rattle.workload_command.specs.Blog.{blog_text}
 use Rattle.workload_command.proofs.BlogRead.{no-fault, no-other-text}
 use Rattle.workload_command.proofs.blog.blog_schema.Goals as goal
 

@@ -8,5 +8,5 @@ loop-place-preserved c =
     record {
       draws = c.make_request.ensures.state ∙ state-more c.args.asked.seed c.loop-place.place c.loop-place.draws at.draws;
       input = c.in_ok-extend_from_slice.ensures.items
-      ∙ text-more c.args.asked.seed c.loop-place.place c.loop-place.draws c.loop-place.input.items c.as_slice.result.now at.draws at.input (c.as_slice.ensures ∙ c.in_ok-request.ensures.text);
+          ∙ text-more c.args.asked.seed c.loop-place.place c.loop-place.draws c.loop-place.input.items c.as_slice.result.now at.draws at.input (c.as_slice.ensures ∙ c.in_ok-request.ensures.text);
     }
