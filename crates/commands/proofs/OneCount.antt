@@ -1,12 +1,10 @@
 -- What is counted is decided by the tasks and the replies of the entries.
-use Rattle.std.proofs.Common.{◌≡◌, ℕ, suc, ◌==◌, Bool, true, false, List, [], ◌∷◌, cond, length, map, Ok, refl, ap, sym, ◌∙◌, cc}
+use Rattle.std.proofs.Common.{◌≡◌, ℕ, suc, ◌==◌, Bool, true, false, List, [], ◌∷◌, cond, length, map, Ok, Err, refl, ap, sym, ◌∙◌}
 use Rattle.std.specs.Prelude.{filter, Result}
 use Rattle.std.proofs.lemmas.List.{length-map}
 use Rattle.resource_schema.specs.declared.schema.Schema.{Schema}
 use Rattle.resource_schema.specs.declared.faults.SchemaFault.{SchemaFault}
 use Rattle.task_forms.specs.declared.tasks.Entry.{Entry}
-use Rattle.workload_command.specs.declared.counts.Counts.{Counts}
-use Rattle.workload_command.specs.declared.tallies.Tally.{Tally}
 use Rattle.workload_command.specs.Counts.{counts_of}
 use Rattle.workload_command.specs.Tallies.{replies_with, tally_of}
 use Rattle.commands.proofs.OneOutput.{told}
@@ -30,8 +28,9 @@ pub same-counts : (j k : ℕ) (es fs : List Entry) (out other : List ℕ) → j 
 same-counts j k es fs out other n e o =
     sym (counts-told j es out) ∙ (λ i. counts_of (n i) (e i) (o i)) ∙ counts-told k fs other
 
+abbrev schema_in : Schema → Result Schema SchemaFault → Schema
+schema_in other (Ok s) = s
+schema_in other (Err fault) = other
+
 pub one-schema : (d : Result Schema SchemaFault) (s t : Schema) → d ≡ Ok s → d ≡ Ok t → s ≡ t
-one-schema d s t x y = first (sym x ∙ y)
-  where
-    first : Ok s ≡ Ok t → s ≡ t
-    first z = cc
+one-schema d s t x y = ap (schema_in s) (sym x ∙ y)
