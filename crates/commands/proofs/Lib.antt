@@ -1,2 +1,3 @@
 mod Unworn
 mod OneOutput
+mod OneCount

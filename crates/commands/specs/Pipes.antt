@@ -20,6 +20,8 @@ use Rattle.command_lines.specs.declared.schemas.SchemaRead.TheVariants as schema
 use Rattle.command_lines.specs.Lines.{Tells, Refuses, line, schema_line}
 use Rattle.command_lines.specs.SchemaFiles.{IsReadBy}
 use Rattle.replay_command.specs.Replays.{is_replay, ReplaysBy}
+use Rattle.workload_command.specs.Words.{is_workload}
+use Rattle.workload_command.specs.Workloads.{WorkloadBy}
 use Rattle.commands.specs.Notices.{notice_for}
 
 -- the three ends of a command
@@ -110,8 +112,9 @@ pub record PipesBy {S : Type 0} (told : S → SourceTold) (words : List (List �
       (λ path. (read : SchemaRead) × IsReadBy told before.opener now.opener path read × PipesRead path read before.source now.source before.sink now.sink status)
   pub refuses : IsFalse (is_pipe words) → IsNone (path_of words) → Refuses (line (codes "words") []) before.sink now.sink status
 
--- what the program comes to with its words: a notice, a replay, or a session
+-- what the program comes to with its words: a notice, a replay, a workload, or a session
 pub record CommandBy {S : Type 0} (told : S → SourceTold) (words : List (List ℕ)) (before now : Ends) (status : ℕ) : Type 0 where
   pub notice : IfSome (notice_for words) (λ text. Tells text before.sink now.sink status)
   pub replays : IsTrue (is_replay words) → ReplaysBy words before.source now.source before.sink now.sink status
-  pub pipes : IsNone (notice_for words) → IsFalse (is_replay words) → PipesBy told words before now status
+  pub workload : IsTrue (is_workload words) → WorkloadBy words before.sink now.sink status
+  pub pipes : IsNone (notice_for words) → IsFalse (is_replay words) → IsFalse (is_workload words) → PipesBy told words before now status

@@ -10,6 +10,6 @@ mod pipes;
 mod program;
 
 pub use connections::serve_connection;
-pub use laws::output_is_one;
+pub use laws::{output_is_one, workload_is_one};
 pub use pipes::pipe_command;
 pub use program::command;

@@ -1,6 +1,7 @@
 ghost use Rattle.std.specs.Prelude.{◌≡◌, IsFalse, IsNone, IsSome};
 ghost use Rattle.commands.specs.Notices.{notice_for};
 ghost use Rattle.replay_command.specs.Replays.{is_replay};
+ghost use Rattle.workload_command.specs.Words.{is_workload};
 ghost use Rattle.commands.specs.Pipes.{is_pipe, path_of, ends, CommandBy};
 
 use crate::notices::notice_for;
@@ -10,10 +11,11 @@ use ident_rules::Text;
 use outer_ends::{Opener, Sink, Source};
 use replay_command::{is_replay, replay_command};
 use std::alloc::Global;
+use workload_command::{is_workload, workload_command};
 
 /// The program, given the words behind its name: `--help` and `--version` alone write their notice, and touch nothing else; `replay` alone is
-/// `replay_command`; other words are those of `pipe_command`. Its answer is the exit status: 0 for a notice, or 1 where the sink failed and
-/// its count says so; else that of the command.
+/// `replay_command`; where the first word is `workload`, the words are those of `workload_command`, and else those of `pipe_command`. Its answer is
+/// the exit status: 0 for a notice, or 1 where the sink failed and its count says so; else that of the command.
 pub fn command<S: Source, K: Sink, O: Opener>(
     alloc: Global,
     words: &[Text],
@@ -31,6 +33,9 @@ pub fn command<S: Source, K: Sink, O: Opener>(
     }
     if is_replay(words) {
         return replay_command(alloc, words, source, sink);
+    }
+    if is_workload(words) {
+        return workload_command(alloc, words, sink);
     }
     pipe_command(alloc, words, opener, source, sink)
 }

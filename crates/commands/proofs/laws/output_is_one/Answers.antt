@@ -1,4 +1,4 @@
-use Rattle.std.proofs.Common.{subst, sym, List, map}
+use Rattle.std.proofs.Common.{subst, List, map}
 use Rattle.task_forms.specs.declared.tasks.Entry.{Entry}
 use Rattle.http_model.specs.Served.{Served, end_of}
 use Rattle.request_model.specs.Plans.{planned as planned_in}

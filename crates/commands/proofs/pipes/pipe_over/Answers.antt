@@ -1,4 +1,4 @@
-use Rattle.std.proofs.Common.{◌≡◌, ◌+◌, refl, Bool, List, ℕ, arith, [], length, sym, ap, ◌∙◌, subst}
+use Rattle.std.proofs.Common.{◌≡◌, ◌+◌, refl, Bool, arith, [], length, sym, ap, ◌∙◌, subst}
 use Rattle.std.specs.Prelude.{IfSome}
 use Rattle.resource_schema.specs.declared.schema.Schema.{Schema}
 use Rattle.http_model.specs.Served.{Served}

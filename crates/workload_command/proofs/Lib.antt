@@ -1,0 +1,5 @@
+mod Joined
+mod Sessions
+mod OnLiterals
+mod BlogRead
+mod Examples

@@ -1,0 +1,5 @@
+pub mod Words
+pub mod Tallies
+pub mod Counts
+pub mod Blog
+pub mod Workloads
