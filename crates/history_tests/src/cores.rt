@@ -48,6 +48,25 @@ pub fn trial_of<S: Subject + Drop, P: Planner>(
     Ok(Some((attempt, trial)))
 }
 
+/// Tries a message's task on a snapshot of the core, and commits it. None where it has no task.
+fn commit_on<S: Subject + Drop, P: Planner>(
+    alloc: Global,
+    core: &mut Core<S>,
+    planner: &P,
+    snapshot: &Snapshot,
+    message: &Message,
+) -> Result<Option<CommitEnd>, NoMemory>
+    requires fit { (t : StoreTask) → P.fit planner.now t → (S.meaning (S.kind core.old.subject)).fit t }
+    ensures subject { core.new.subject ≡ core.old.subject }
+{
+    let tried = trial_of(alloc, core.subject(), planner, snapshot, message)?;
+    let Some((attempt, trial)) = tried else {
+        return Ok(None);
+    };
+    let mut work = Work::new();
+    Ok(Some(core.commit(0, attempt, trial, &mut work)))
+}
+
 /// Tries a message's task on the core as it is, and commits it. None where it has no task.
 fn commit_new<S: Subject + Drop, P: Planner>(
     alloc: Global,
@@ -59,12 +78,7 @@ fn commit_new<S: Subject + Drop, P: Planner>(
     ensures subject { core.new.subject ≡ core.old.subject }
 {
     let snapshot = core.begin()?;
-    let tried = trial_of(alloc, core.subject(), planner, &snapshot, message)?;
-    let Some((attempt, trial)) = tried else {
-        return Ok(None);
-    };
-    let mut work = Work::new();
-    Ok(Some(core.commit(0, attempt, trial, &mut work)))
+    commit_on(alloc, core, planner, &snapshot, message)
 }
 
 /// Commits a message's task so many times. How often its entry joined.
@@ -79,7 +93,7 @@ fn commit_times<S: Subject + Drop, P: Planner>(
     ensures subject { core.new.subject ≡ core.old.subject }
 {
     let mut joined = 0_u64;
-    for _ in 0..times {
+    'committing: for _ in 0..times {
         if let Some(CommitEnd::Done(_)) = commit_new(alloc, core, planner, message)? {
             joined = joined.saturating_add(1);
         }
@@ -126,6 +140,67 @@ pub struct SnapshotReads {
     pub end: CommitEnd,
 }
 
+/// What a message's task gives on a snapshot. None where it has no task.
+fn read_on<S: Subject + Drop, P: Planner>(
+    alloc: Global,
+    subject: &S,
+    planner: &P,
+    snapshot: &Snapshot,
+    message: &Message,
+) -> Result<Option<Trial>, NoMemory>
+    requires fit { (t : StoreTask) → P.fit planner.now t → (S.meaning (S.kind subject.now)).fit t }
+{
+    match trial_of(alloc, subject, planner, snapshot, message)? {
+        Some((_attempt, trial)) => Ok(Some(trial)),
+        None => Ok(None),
+    }
+}
+
+/// What a message's task gives on a snapshot of the core, and on one of now. None where it has no task.
+fn reads_now<S: Subject + Drop, P: Planner>(
+    alloc: Global,
+    core: &Core<S>,
+    planner: &P,
+    kept: &Snapshot,
+    message: &Message,
+) -> Result<Option<(Trial, Trial)>, NoMemory>
+    requires fit { (t : StoreTask) → P.fit planner.now t → (S.meaning (S.kind core.now.subject)).fit t }
+{
+    let now = core.begin()?;
+    let Some(after) = read_on(alloc, core.subject(), planner, &now, message)? else {
+        return Ok(None);
+    };
+    let Some(later) = read_on(alloc, core.subject(), planner, kept, message)? else {
+        return Ok(None);
+    };
+    Ok(Some((later, after)))
+}
+
+/// The reads by a snapshot that was kept, and its end, where the first is known.
+fn reads_then<S: Subject + Drop, P: Planner>(
+    alloc: Global,
+    core: &mut Core<S>,
+    planner: &P,
+    kept: &Snapshot,
+    message: &Message,
+    before: Trial,
+) -> Result<Option<SnapshotReads>, NoMemory>
+    requires fit { (t : StoreTask) → P.fit planner.now t → (S.meaning (S.kind core.old.subject)).fit t }
+{
+    let Some((later, after)) = reads_now(alloc, core, planner, kept, message)? else {
+        return Ok(None);
+    };
+    let Some(end) = commit_on(alloc, core, planner, kept, message)? else {
+        return Ok(None);
+    };
+    Ok(Some(SnapshotReads {
+        before,
+        later,
+        after,
+        end,
+    }))
+}
+
 /// Reads by a snapshot before and after so many commits.
 pub fn reads_of_snapshot<S: Subject + Drop, P: Planner>(
     alloc: Global,
@@ -139,28 +214,11 @@ pub fn reads_of_snapshot<S: Subject + Drop, P: Planner>(
 {
     let mut core = Core::new(alloc, subject, Pages::new(alloc), 0, LOG_WINDOW)?;
     let kept = core.begin()?;
-    let Some((_, before)) = trial_of(alloc, core.subject(), planner, &kept, reads)? else {
+    let Some(before) = read_on(alloc, core.subject(), planner, &kept, reads)? else {
         return Ok(None);
     };
     if commit_times(alloc, &mut core, planner, writes, times)? != times {
         return Ok(None);
     }
-    let now = core.begin()?;
-    let Some((_, after)) = trial_of(alloc, core.subject(), planner, &now, reads)? else {
-        return Ok(None);
-    };
-    let Some((_, later)) = trial_of(alloc, core.subject(), planner, &kept, reads)? else {
-        return Ok(None);
-    };
-    let Some((attempt, trial)) = trial_of(alloc, core.subject(), planner, &kept, reads)? else {
-        return Ok(None);
-    };
-    let mut work = Work::new();
-    let end = core.commit(0, attempt, trial, &mut work);
-    Ok(Some(SnapshotReads {
-        before,
-        later,
-        after,
-        end,
-    }))
+    reads_then(alloc, &mut core, planner, &kept, reads, before)
 }

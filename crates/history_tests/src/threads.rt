@@ -71,12 +71,12 @@ fn replies<'t>(alloc: Global, sent: &'t str) -> Result<Vec<&'t str>, NoMemory> {
 
 /// The replies of one thread, and how many of them stand in the history so far.
 #[derive(Drop)]
-struct Replies<'t> {
+struct ReplyList<'t> {
     replies: Vec<&'t str>,
     taken: usize,
 }
 
-impl<'t> Replies<'t> {
+impl<'t> ReplyList<'t> {
     /// Takes the next reply where it tells the note of that id.
     fn take(&mut self, id: u64) -> Option<&'t str> {
         let reply = *self.replies.get(self.taken)?;
@@ -102,11 +102,11 @@ fn in_order(alloc: Global, first: &str, second: &str) -> Result<Option<InOrder>,
         bytes: Vec::new(alloc),
         sent: Vec::new(alloc),
     };
-    let mut firsts = Replies {
+    let mut firsts = ReplyList {
         replies: replies(alloc, first)?,
         taken: 0,
     };
-    let mut seconds = Replies {
+    let mut seconds = ReplyList {
         replies: replies(alloc, second)?,
         taken: 0,
     };
