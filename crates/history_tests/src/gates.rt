@@ -72,7 +72,7 @@ fn is_listed(station: &HeldStation<'_>) -> bool {
 }
 
 /// Serves the two stations.
-fn served<R: Threads + Wait + Sync>(
+fn serve_both<R: Threads + Wait + Sync>(
     rt: &R,
     alloc: Global,
     stations: &mut [HeldStation<'_>],
@@ -101,7 +101,7 @@ fn releases<R: Threads + Wait + Sync>(rt: &R, alloc: Global) -> Result<bool, NoM
     let held = station(alloc, TURNS, &written, &unheeded)?;
     let free = station(alloc, 0, &unheeded, &written)?;
     let mut stations = [held, free];
-    let served = served(rt, alloc, &mut stations)?;
+    let served = serve_both(rt, alloc, &mut stations)?;
     let listed = is_listed(&stations[0]) && is_listed(&stations[1]);
     Ok(listed && was_released(&stations[0]) && served.entries == 2)
 }
