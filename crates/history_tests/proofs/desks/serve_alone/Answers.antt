@@ -6,4 +6,4 @@ pub over-desk-requires : goal.over-desk-requires
 over-desk-requires g c =
     let k = g.S.Answers.kind c.in_ok-core.core.subject in
     let lawful = g.S.Means.lawful k in
-    (c.args.first, (g.S.Means.meaning k).empty, [], c.in_ok-core.ensures.begins (g.S.Means.meaning k).empty lawful.begins (λ i. ap (λ p. map_of p i) c.new.ensures ∙ sym (lawful.nothing i)))
+    record { stands = (c.args.first, (g.S.Means.meaning k).empty, [], c.in_ok-core.ensures.begins (g.S.Means.meaning k).empty lawful.begins (λ i. ap (λ p. map_of p i) c.new.ensures ∙ sym (lawful.nothing i))) }
