@@ -1,4 +1,6 @@
 //! Old trials, and snapshots that are kept.
+ghost use Rattle.std.specs.Prelude.{◌<◌};
+
 use crate::{SnapshotReads, end_of_old_trial, reads_of_snapshot};
 use commit_core::{CommitEnd, Setback};
 use http_messages::{Field, Message};
@@ -56,7 +58,9 @@ fn setback_after(
     alloc: Global,
     window: usize,
     times: u64,
-) -> Result<Option<(u8, Setback)>, NoMemory> {
+) -> Result<Option<(u8, Setback)>, NoMemory>
+    requires window { 0 < window }
+{
     let schema = Schema::notes(alloc)?;
     let subject = JsonSubject::new(schema.copy(alloc)?);
     let planner = LentTasks { schema: &schema };

@@ -1,4 +1,6 @@
 //! Desks at the end of the counter.
+ghost use Rattle.std.specs.Prelude.{◌≤◌, ◌^◌};
+
 use crate::{serve_alone, serve_shared};
 use connection_workers::{Cause, WorkerEnd};
 use ident_rules::NoMemory;
@@ -32,7 +34,9 @@ const FINDS_FULL: Client = Client {
 };
 
 /// What a worker over a core of its own comes to. None where something else was sent.
-fn alone(alloc: Global, first: u64, client: &Client) -> Result<Option<WorkerEnd>, NoMemory> {
+fn alone(alloc: Global, first: u64, client: &Client) -> Result<Option<WorkerEnd>, NoMemory>
+    requires first { first ≤ 2 ^ 62 }
+{
     let schema = Schema::notes(alloc)?;
     let subject = JsonSubject::new(schema.copy(alloc)?);
     let planner = LentTasks { schema: &schema };
@@ -51,7 +55,9 @@ fn shared<R: Wait>(
     alloc: Global,
     first: u64,
     client: &Client,
-) -> Result<Option<WorkerEnd>, NoMemory> {
+) -> Result<Option<WorkerEnd>, NoMemory>
+    requires first { first ≤ 2 ^ 62 }
+{
     let schema = Schema::notes(alloc)?;
     let subject = JsonSubject::new(schema.copy(alloc)?);
     let planner = LentTasks { schema: &schema };
