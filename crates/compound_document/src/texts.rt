@@ -20,6 +20,9 @@ use store_model::Selected;
 use task_forms::Query;
 use world_cells::{Link, Row};
 
+/// The room that the text of one resource begins with.
+const ROOM: usize = 640;
+
 /// Goes on with the resource objects of rows.
 fn add_rows(draft: &mut TextDraft, schema: &Schema, query: &Query, rows: &[Row])
     ensures { Adds draft.old draft.new (compact_text (resources schema.now query.now rows.now)) }

@@ -48,6 +48,30 @@ struct Row {
     status: u8,
     /// What it tells.
     told: &'static [u8],
+    /// The call that fails, if any.
+    fault: Fault,
+}
+
+/// A first call that fails.
+#[derive(Clone, Copy, PartialEq)]
+enum Fault {
+    /// None.
+    Nothing,
+    /// That which opens the schema file.
+    Open,
+    /// That which reads it.
+    Read,
+    /// That which writes the line.
+    Write,
+}
+
+/// The numbers of failing calls: 1 where the row's fault is this one.
+fn failing(alloc: Global, row: &Row, fault: Fault) -> Result<Vec<u64>, NoMemory> {
+    let mut numbers = Vec::new(alloc);
+    if row.fault == fault {
+        numbers.push(1)?;
+    }
+    Ok(numbers)
 }
 
 /// The words of a run.
@@ -59,12 +83,17 @@ fn words_of(alloc: Global, row: &Row) -> Result<Vec<Text>, NoMemory> {
     Ok(words)
 }
 
-/// An opener of the file `s` alone.
-pub fn opener(alloc: Global) -> Result<MemoryOpener, NoMemory> {
+/// An opener of the file `s` alone, whose calls of those numbers fail, as those of its file do.
+fn opener_of(alloc: Global, opens: Vec<u64>, reads: Vec<u64>) -> Result<MemoryOpener, NoMemory> {
     let name = Text::from_str(alloc, "s")?.into_string();
     let mut files = Vec::new(alloc);
-    files.push((name, Vec::from_slice(alloc, NOTES)?, Vec::new(alloc)))?;
-    Ok(MemoryOpener::new(alloc, files, Vec::new(alloc)))
+    files.push((name, Vec::from_slice(alloc, NOTES)?, reads))?;
+    Ok(MemoryOpener::new(alloc, files, opens))
+}
+
+/// An opener of the file `s` alone.
+pub fn opener(alloc: Global) -> Result<MemoryOpener, NoMemory> {
+    opener_of(alloc, Vec::new(alloc), Vec::new(alloc))
 }
 
 /// The exit status. None where there are not as many stations as the words ask for.
@@ -72,26 +101,28 @@ fn status_of<R: Threads + Wait + Sync>(
     rt: &R,
     alloc: Global,
     words: &[Text],
+    opener: &mut MemoryOpener,
     stations: &mut [MemoryStation],
     sink: &mut MemorySink,
 ) -> Result<Option<u8>, NoMemory>
     requires { All (λ s. IsSome s.gate) stations.old }
 {
-    let mut opener = opener(alloc)?;
     if let Some(asked) = serve_words(words) {
         if stations.len() != asked.workers as usize {
             return Ok(None);
         }
     }
-    Ok(Some(serve_command(rt, alloc, words, &mut opener, stations, sink)))
+    Ok(Some(serve_command(rt, alloc, words, opener, stations, sink)))
 }
 
 /// Whether the run comes to that.
 fn comes_so<R: Threads + Wait + Sync>(rt: &R, alloc: Global, row: &Row) -> Result<bool, NoMemory> {
     let words = words_of(alloc, row)?;
     let mut stations = stations(alloc, row.clients)?;
-    let mut sink = MemorySink::new(alloc, Vec::new(alloc));
-    let status = status_of(rt, alloc, &words, &mut stations, &mut sink)?;
+    let opens = failing(alloc, row, Fault::Open)?;
+    let mut opener = opener_of(alloc, opens, failing(alloc, row, Fault::Read)?)?;
+    let mut sink = MemorySink::new(alloc, failing(alloc, row, Fault::Write)?);
+    let status = status_of(rt, alloc, &words, &mut opener, &mut stations, &mut sink)?;
     let told = status == Some(row.status) && sink.written() == row.told;
     Ok(told && were_served(&stations, row.clients))
 }
@@ -117,11 +148,23 @@ fn refused(words: [&'static str; 5], clients: &'static [Client], told: &'static 
         clients,
         status: 2,
         told,
+        fault: Fault::Nothing,
+    }
+}
+
+/// A run of one worker and one connection with a failing call.
+fn failed(clients: &'static [Client], fault: Fault) -> Row {
+    Row {
+        words: ["serve", "s", "a", "1", "1"],
+        clients,
+        status: 1,
+        told: b"",
+        fault,
     }
 }
 
 /// The runs.
-fn rows() -> [Row; 6] {
+fn rows() -> [Row; 9] {
     let others = b"jsonapid: words\n";
     [
         refused(["serve", "s", "a", "0", "1"], &[], others),
@@ -137,6 +180,7 @@ fn rows() -> [Row; 6] {
             clients: &[WRITES, ASKS],
             status: 0,
             told: b"sessions 2 requests 4 entries 4\n",
+            fault: Fault::Nothing,
         },
         // The second accept fails.
         Row {
@@ -144,7 +188,11 @@ fn rows() -> [Row; 6] {
             clients: &[ASKS],
             status: 1,
             told: b"sessions 1 requests 1 entries 1\n",
+            fault: Fault::Nothing,
         },
+        failed(&[WAITS], Fault::Open),
+        failed(&[WAITS], Fault::Read),
+        failed(&[ASKS], Fault::Write),
     ]
 }
 

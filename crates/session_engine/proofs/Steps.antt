@@ -92,6 +92,12 @@ at : (plans : TaskPlans) (i k : ℕ) (seen : List ℕ) (left : Option (List ℕ)
 at plans i k seen left tail end e h final =
     subst (λ (n : ℕ). Settles plans i seen left false n [] tail end) (sym e) (settles_at plans i seen left false [] tail end h final)
 
+pub step_end : (plans : TaskPlans) (old now : SessionState) (t u : SourceTold) (w x : SinkTold)
+    → TakesMessage old.buffer now.buffer t u w x found.End → now.answered ≡ old.answered → StepSees plans old now t u w x (step.Ended Closed)
+step_end plans old now t u w x h e =
+    step_message plans old now t u w x found.End Closed h
+    (at plans old.answered now.answered (old.buffer ++ h.bytes) u.left h.sent Closed e (inl (no_exchange, h.verdict.0), refl, h.verdict.2) (inl h.verdict.1))
+
 pub step_cut : (plans : TaskPlans) (old now : SessionState) (t u : SourceTold) (w x : SinkTold)
     → TakesMessage old.buffer now.buffer t u w x found.CutShort → now.answered ≡ old.answered → StepSees plans old now t u w x (step.Ended CutShort)
 step_cut plans old now t u w x h e =

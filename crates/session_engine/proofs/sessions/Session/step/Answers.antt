@@ -1,7 +1,7 @@
 use Rattle.std.proofs.Common.{◌∙◌, ◌<◌, sym, ap, refl, subst}
 use Rattle.session_engine.specs.Plans.{as_planned}
 use Rattle.session_engine.specs.States.{SessionState}
-use Rattle.session_engine.proofs.Steps.{step_plan_fails, step_no_memory, step_cut, step_read_fault, step_write_fault, step_refused, step_answered, step_replied, along}
+use Rattle.session_engine.proofs.Steps.{step_plan_fails, step_no_memory, step_end, step_cut, step_read_fault, step_write_fault, step_refused, step_answered, step_replied, along}
 use Rattle.http_messages.specs.declared.limits.TheConstants.{MESSAGE_LIMIT}
 use Rattle.session_engine.proofs.sessions.Session.step.Goals as goal
 
@@ -23,6 +23,10 @@ returns-in-Whole-clause-sees g c =
     step_replied _ _ (record { answered = c.self.inside.answered; buffer = c.take_message.new.buffer; pending = c.self.inside.pending }) _ _ _ _ _ _ c.in-Whole.message c.in-Ok-Fixed.reply _ c.in-Some.end c.in-Whole.ensures.takes
     (ap as_planned (sym c.in-Ok-Fixed.ensures.planned ∙ c.in-Ok-Fixed.field-0-is)) c.is_head-head_only.ensures c.closes-close.ensures refl c.in-Some.ensures.sends
     )
+
+pub returns-in-End-clause-sees : goal.returns-in-End-clause-sees
+returns-in-End-clause-sees g c =
+    along _ _ _ _ _ _ _ _ _ c.self.view_is (step_end _ _ _ _ _ _ _ c.in-End.ensures.takes refl)
 
 pub returns-in-CutShort-clause-sees : goal.returns-in-CutShort-clause-sees
 returns-in-CutShort-clause-sees g c =
