@@ -1,11 +1,12 @@
 //! Two workers at once: one is held at its gate until the other one has written.
-ghost use Rattle.std.specs.Prelude.{◌≡◌, All, IfOk, IsSome, length};
+ghost use Rattle.std.specs.Prelude.{◌≡◌, All, IsSome, length};
 
 use crate::{FlagListener, Hold};
 use commit_core::Core;
 use connection_workers::WorkerEnd;
 use history_lock::Pass;
 use ident_rules::NoMemory;
+use outer_ends::MemoryListener;
 use request_tasks::LentTasks;
 use resource_schema::Schema;
 use serve_lines::Served;
@@ -39,23 +40,20 @@ type HeldStation<'a> = Station<
 >;
 
 fn station<'a>(
-    alloc: Global,
+    inner: MemoryListener,
     turns: u64,
     holds: &'a AtomicBool,
     sets: &'a AtomicBool,
-) -> Result<HeldStation<'a>, NoMemory>
-    ensures { IfOk result (λ s. IsSome s.gate) }
+) -> HeldStation<'a>
+    ensures { IsSome result.gate }
 {
-    let listener = FlagListener {
-        inner: listener(alloc, &LISTS)?,
-        flag: sets,
-    };
+    let listener = FlagListener { inner, flag: sets };
     let gate = Hold {
         flag: holds,
         turns,
         released: false,
     };
-    Ok(Station::new(listener, gate))
+    Station::new(listener, gate)
 }
 
 /// Whether the worker of a station was released at its gate.
@@ -96,10 +94,12 @@ fn serve_both<R: Threads + Wait + Sync>(
 
 /// Whether a worker that was held was released by what the other one wrote.
 fn releases<R: Threads + Wait + Sync>(rt: &R, alloc: Global) -> Result<bool, NoMemory> {
+    let one = listener(alloc, &LISTS)?;
+    let other = listener(alloc, &LISTS)?;
     let written = AtomicBool::new(false);
     let unheeded = AtomicBool::new(false);
-    let held = station(alloc, TURNS, &written, &unheeded)?;
-    let free = station(alloc, 0, &unheeded, &written)?;
+    let held = station(one, TURNS, &written, &unheeded);
+    let free = station(other, 0, &unheeded, &written);
     let mut stations = [held, free];
     let served = serve_both(rt, alloc, &mut stations)?;
     let listed = is_listed(&stations[0]) && is_listed(&stations[1]);
