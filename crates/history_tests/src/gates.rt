@@ -39,6 +39,7 @@ type HeldStation<'a> = Station<
     WorkerEnd,
 >;
 
+/// A station over this listener.
 fn station<'a>(
     inner: MemoryListener,
     turns: u64,

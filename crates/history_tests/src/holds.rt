@@ -73,6 +73,7 @@ pub struct Hold<'a> {
 }
 
 impl<'a> Gate for Hold<'a> {
+    /// Waits at the first pass alone.
     fn pass(&mut self, number: u64) {
         if number != 1 {
             return;
