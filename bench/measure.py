@@ -1,20 +1,20 @@
 #!/usr/bin/env python3
-"""What requests through `jsonapid pipe` cost, over a blog: instructions a request by callgrind, allocations by memcheck, both from two runs of which one has the
-requests more, and microseconds by the clock.
+"""What requests through `jsonapid pipe` cost, over a blog: instructions a request by callgrind, allocations by memcheck, and processor time, each from two runs of
+which one has the requests more.
 
-Usage: bench/measure.py [--quick] [PROGRAM]     --quick: instructions among 1,000 articles alone
+Usage: bench/measure.py [--quick|--times] [PROGRAM]     --quick: instructions among 1,000 articles alone; --times: processor time alone
 
 It prints the tables of docs/ARCHITECTURE.md. It builds nothing: run the program once by `rt run` in crates/jsonapid first. Needs valgrind. It takes some 20 minutes, and 2 with --quick."""
 import json
 import os
 import re
+import resource
 import subprocess
 import sys
 import tempfile
-import time
 
 HERE = os.path.dirname(os.path.abspath(__file__))
-WORDS = [it for it in sys.argv[1:] if it != "--quick"]
+WORDS = [it for it in sys.argv[1:] if not it.startswith("--")]
 PROGRAM = WORDS[0] if WORDS else f"{HERE}/../crates/jsonapid/out/jsonapid"
 SCHEMA = {
     "types": {
@@ -130,13 +130,14 @@ def allocations(work, text):
     return int(re.search(r"total heap usage: ([\d,]+) allocs", said).group(1).replace(",", ""))
 
 
-def clock(work, text):
-    """Returns the least seconds of three runs."""
+def processor_seconds(work, text):
+    """Returns the least processor seconds of three runs."""
     took = []
     for _ in range(3):
-        begun = time.perf_counter()
+        before = resource.getrusage(resource.RUSAGE_CHILDREN)
         run(work, [], text)
-        took.append(time.perf_counter() - begun)
+        after = resource.getrusage(resource.RUSAGE_CHILDREN)
+        took.append(after.ru_utime + after.ru_stime - before.ru_utime - before.ru_stime)
     return min(took)
 
 
@@ -160,13 +161,13 @@ def costs(work, measure, rows):
 
 
 def times(work, rows):
-    """Returns the microseconds that a request of each kind takes over so many articles."""
+    """Returns the processor microseconds that a request of each kind takes over so many articles."""
     before = blog(rows)
-    base = clock(work, before)
+    base = processor_seconds(work, before)
     found = {}
     for name, make, count in kinds(rows):
-        many = min(count * 20, rows) if name.startswith("DELETE") else count * 20
-        found[name] = (clock(work, before + "".join(make(number) for number in range(many))) - base) / many * 1e6
+        many = min(count * 100, rows) if name.startswith("DELETE") else count * 100
+        found[name] = (processor_seconds(work, before + "".join(make(number) for number in range(many))) - base) / many * 1e6
     return found
 
 
@@ -174,18 +175,26 @@ def whole(work):
     """Prints all of it."""
     counts, more = costs(work, callgrind, 1000), costs(work, callgrind, 30_000)
     asked = costs(work, allocations, 1000)
-    by_clock = [times(work, rows) for rows in (1000, 30_000, 300_000)]
-    print("| Request | Instructions, 1,000 articles | 30,000 | Allocations | Microseconds, 1,000 articles | 30,000 | 300,000 |\n|---|---|---|---|---|---|---|")
+    print("| Request | Instructions, 1,000 articles | 30,000 | Times | Allocations |\n|---|---|---|---|---|")
     for name, cost in counts.items():
-        print(f"| {name} | {cost:,.0f} | {more[name]:,.0f} | {asked[name]:.1f} | " + " | ".join(f"{it[name]:.1f}" for it in by_clock) + " |")
+        print(f"| {name} | {cost:,.0f} | {more[name]:,.0f} | {more[name] / cost:.2f} | {asked[name]:.1f} |", flush=True)
     thousand = blog(1000)
     base = callgrind(work, thousand)
     sorted_page = "".join(request("GET", "/articles?page[size]=20&sort=title") for _ in range(10))
     print(f"\n| page of 20, sorted over 1,000 | {(callgrind(work, thousand + sorted_page) - base) / 10:,.0f} |")
     print(f"| list of 1,000 additions | {(callgrind(work, thousand + listing(1000) * 2) - base) / 2:,.0f} |")
-    few, many = clock(work, blog(4000)), clock(work, blog(40000))
+    few, many = processor_seconds(work, blog(4000)), processor_seconds(work, blog(40000))
     print(f"| 4,000 and 40,000 POSTs of articles | {few:.3f} s and {many:.3f} s, {many / few:.1f} times |")
-    print(f"| memory of an article, of 300,000 | {(peak(work, blog(300_000)) - peak(work, people())) / 300_000:,.0f} bytes |")
+    timed(work)
+    print(f"\n| memory of an article, of 300,000 | {(peak(work, blog(300_000)) - peak(work, people())) / 300_000:,.0f} bytes |")
+
+
+def timed(work):
+    """Prints the processor time of a request, which means something on a machine that does nothing else."""
+    by_rows = [times(work, rows) for rows in (1000, 30_000, 300_000)]
+    print("\n| Request | Processor microseconds, 1,000 articles | 30,000 | 300,000 |\n|---|---|---|---|")
+    for name in by_rows[0]:
+        print(f"| {name} | " + " | ".join(f"{it[name]:.1f}" for it in by_rows) + " |", flush=True)
 
 
 def main():
@@ -195,6 +204,8 @@ def main():
         if "--quick" in sys.argv:
             for name, cost in costs(work, callgrind, 1000).items():
                 print(f"| {name} | {cost:,.0f} |", flush=True)
+        elif "--times" in sys.argv:
+            timed(work)
         else:
             whole(work)
 
