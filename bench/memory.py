@@ -1,12 +1,13 @@
 #!/usr/bin/env python3
 """Want of memory at each request for it in turn, seen from outside.
 
-Usage: bench/memory.py [PROGRAM]     It builds nothing of the program: run it once by `rt run` in crates/jsonapid first. Needs gcc.
+Usage: bench/memory.py [PROGRAM [PAGES]]     It builds nothing of the programs: run them once by `rt run` in crates/jsonapid and in crates/page_runs first. Needs gcc.
 
 A library that is loaded before libc's fails the call of a given number. Then it is checked, for every number up to the one at which nothing fails any more:
 
 - `pipe` over a POST, a GET, a PATCH, a page and a list: what is sent is the whole replies to the first requests, as without a failure, and then the 503 text and nothing else, with status 5; or all of them;
   or nothing with status 5, where memory ran out before the session;
+- 20,000 snapshots of 300 cells ask for no memory (`page_runs snapshots` asks as often as `page_runs cells`);
 - `serve` with one worker: a connection that asks for a change and another that then reads the store. Where the first was sent 503 the store is as it was before, and where it was sent 201 the change is there.
 """
 import os
@@ -23,6 +24,7 @@ sys.path.insert(0, HERE)
 import measure  # noqa: E402  (the blog and its requests)
 
 PROGRAM = WORDS[0] if WORDS else f"{HERE}/../crates/jsonapid/out/jsonapid"
+PAGES = WORDS[1] if len(WORDS) > 1 else f"{HERE}/../crates/page_runs/out/page_runs"
 UNAVAILABLE = b"HTTP/1.1 503 Service Unavailable\r\nVary: Accept\r\nContent-Length: 0\r\nConnection: close\r\n\r\n"
 SHIM = r"""
 #define _GNU_SOURCE
@@ -109,6 +111,16 @@ def check_pipe(work):
     print(f"pipe: {total} calls failed in turn; replies before the 503 text: " + ", ".join(f"{count} times {it}" for it, count in enumerate(sent[:7]) if count) + f"; {sent[7]} made no difference")
 
 
+def check_snapshots(work):
+    asked = []
+    for word in ("cells", "snapshots"):
+        said = subprocess.run([PAGES, word], capture_output=True, text=True, env=environment(work, 0, f"{work}/count"), check=True).stdout
+        assert said == "150 articles written\n", said
+        asked.append(total_in(work))
+    assert asked[0] == asked[1] > 1000, asked
+    print(f"snapshots: {asked[0]} requests for memory without any, and as many with 20,000")
+
+
 def ask(port, text):
     """Returns what a connection is sent for the text, or nothing where it cannot be made."""
     try:
@@ -180,6 +192,7 @@ def main():
         subprocess.run(["gcc", "-shared", "-fPIC", "-O1", "-o", f"{work}/fails.so", f"{work}/fails.c"], check=True)
         with open(f"{work}/schema", "w", encoding="ascii") as it:
             measure.json.dump(measure.SCHEMA, it)
+        check_snapshots(work)
         check_pipe(work)
         check_serve(work)
 

@@ -2,12 +2,13 @@
 ghost use Rattle.std.specs.Prelude.{◌<◌};
 
 use crate::digests::{Digest, digest_of};
-use crate::draws::{Draws, drawn_set, place, span_at};
+use crate::draws::{drawn_set, place, span_at};
 use ident_rules::NoMemory;
 use ordered_pages::Pages;
 use outer_ends::Work;
 use std::alloc::Global;
 use view_reads::{CellMap, View};
+use workload_maker::Draws;
 use world_cells::{Cell, CellKey};
 
 /// What came of a run.
@@ -81,7 +82,7 @@ impl Stores {
     {
         let mut count = 0_u64;
         for _ in 0..20 {
-            if !self.agree_at(draws.below(places)) {
+            if !self.agree_at(draws.draw(places)) {
                 count = count.wrapping_add(1);
             }
         }

@@ -1,36 +1,12 @@
-//! Numbers, keys and write sets that are drawn.
+//! Keys and write sets that are drawn.
 ghost use Rattle.std.specs.Prelude.{◌<◌, IfOk, map};
 ghost use Rattle.world_cells.specs.Reads.{AreRisingKeys};
 
 use ident_rules::{Id, Key, NoMemory};
 use std::alloc::Global;
 use view_reads::{CellMap, Recorder};
+use workload_maker::Draws;
 use world_cells::{Cell, CellKey, Edge, Span, WriteSet};
-
-/// A source of numbers, which are the same in each run.
-#[derive(Drop)]
-pub struct Draws {
-    state: u64,
-}
-
-impl Draws {
-    /// The source of a run.
-    pub fn new(seed: u64) -> Draws {
-        Draws { state: seed }
-    }
-
-    /// The next number below another.
-    pub fn below(&mut self, limit: u64) -> u64
-        requires { 0 < limit }
-        ensures { result < limit }
-    {
-        self.state = self
-            .state
-            .wrapping_mul(6_364_136_223_846_793_005)
-            .wrapping_add(1_442_695_040_888_963_407);
-        (self.state >> 33) % limit
-    }
-}
 
 /// The key of a resource.
 pub fn key(kind: u32, number: u64) -> Key {
@@ -82,13 +58,13 @@ pub fn drawn_set(alloc: Global, draws: &mut Draws, places: u64) -> Result<WriteS
     ensures { IfOk result (λ w. AreRisingKeys (map (λ x. x.key) w.cells)) }
 {
     let mut recorder = Recorder::new(alloc, CellMap::new(alloc));
-    let count = 1 + draws.below(50);
+    let count = 1 + draws.draw(50);
     for _ in 0..count {
-        let key = place(draws.below(places));
-        match draws.below(4) {
+        let key = place(draws.draw(places));
+        match draws.draw(4) {
             0 => recorder.remove(key)?,
             1 => recorder.put(key, Cell::Back)?,
-            _ => recorder.put(key, Cell::Counter(draws.below(3)))?,
+            _ => recorder.put(key, Cell::Counter(draws.draw(3)))?,
         }
     }
     let (_, writes) = recorder.finish();

@@ -1,7 +1,8 @@
 //! Pages of cells against the plain map, on write sets that are drawn, with snapshots kept across.
 //!
 //! With no words it prints how many keys the write sets change, and a digest of what is there at the end, which pages and
-//! the plain map have alike. With the word `measure` it prints times of pages with 1,000 and with 100,000 cells.
+//! the plain map have alike. With the word `measure` it prints times of pages with 1,000 and with 100,000 cells. With `cells` it
+//! writes 300 cells, and with `snapshots` it takes 20,000 snapshots of them too, so that their requests for memory can be told apart.
 #![tactic(auto)]
 
 mod comparing;
@@ -11,7 +12,7 @@ mod measuring;
 
 use comparing::{Compared, compare};
 use ident_rules::NoMemory;
-use measuring::measure;
+use measuring::{hold, measure};
 use std::rt::Clock;
 use std::{env, io};
 
@@ -29,8 +30,12 @@ fn print_run(rt: &impl Print, places: u64, run: Result<Compared, NoMemory>) -> i
 fn main(rt: HostRuntime) -> io::Result<()> {
     let alloc = rt.alloc();
     let mut words = env::args(&rt)?;
-    if words.nth(1).is_some() {
-        return measure(&rt, alloc);
+    if let Some(word) = words.nth(1) {
+        return match word.as_str() {
+            "cells" => hold(&rt, alloc, 0),
+            "snapshots" => hold(&rt, alloc, 20_000),
+            _ => measure(&rt, alloc),
+        };
     }
     for (places, sets) in [(3, 200), (300, 200), (20_000, 400)] {
         print_run(&rt, places, compare(alloc, places, sets))?;

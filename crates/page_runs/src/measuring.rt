@@ -153,3 +153,13 @@ pub fn measure(rt: &(impl Print + Clock), alloc: Global) -> io::Result<()> {
     }
     Ok(())
 }
+
+/// Writes 150 articles and takes so many snapshots, for the memory that these ask for.
+pub fn hold(rt: &impl Print, alloc: Global, times: u64) -> io::Result<()> {
+    let mut pages = Pages::new(alloc);
+    let written = write_articles(alloc, &mut pages, 150, 0, 150);
+    if written.is_err() || take_snapshots(&pages, times).is_err() {
+        return println!(rt; "no memory");
+    }
+    println!(rt; "150 articles written")
+}
