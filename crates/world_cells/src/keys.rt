@@ -83,10 +83,10 @@ impl Ord for CellKey {
                     from: other_from,
                     rel: other_rel,
                 },
-            ) => to
-                .cmp(other_to)
-                .then(from.cmp(other_from))
-                .then(rel.cmp(other_rel)),
+            ) => match to.cmp(other_to) {
+                Ordering::Equal => from.cmp(other_from).then(rel.cmp(other_rel)),
+                order => order,
+            },
             (CellKey::Back { .. }, CellKey::Counter(_)) => Ordering::Less,
             (CellKey::Counter(_), CellKey::Back { .. }) => Ordering::Greater,
             (CellKey::Counter(x), CellKey::Counter(y)) => x.cmp(y),
