@@ -29,7 +29,7 @@ rising_back (x ∷ z ∷ xs) ys h = rising_back (z ∷ xs) ys h.1
 pub all_more : (cells before left rest : List Entry) (e : Entry) → cells ≡ before ++ rest → before ≡ left ++ e ∷ [] → cells ≡ left ++ e ∷ rest
 all_more cells before left rest e all popped = all ∙ ap (λ xs. xs ++ rest) popped ∙ append_assoc left (e ∷ []) rest
 
-pub filled_more : (cells left rest : List Entry) (e : Entry) (c : Change) (old new : List (List (List Entry))) → AreRisingKeys (map (λ (x : Entry). x.0) cells) → cells ≡ left ++ e ∷ rest
+pub filled_more : (cells left rest : List Entry) (e : Entry) (c : Change) (old new : List (List (List (List Entry)))) → AreRisingKeys (map (λ (x : Entry). x.0) cells) → cells ≡ left ++ e ∷ rest
     → key_of c ≡ e.0 → put_of c ≡ Some e.1 → IsFilled rest old → IsTreeChanged c old new → IsFilled (e ∷ rest) new
 filled_more cells left rest e c old new rising all key put filled one = record {
   tree = one.tree;

@@ -114,7 +114,7 @@ exact_more keys f g h key cell exact is fresh apart = record {
     more (x ∷ xs) k (inl e) = inl e
     more (x ∷ xs) k (inr i) = inr (more xs k i)
 
-pub start : (old : List (List (List Entry))) (ws : List Written) → IsTree old → ws ≡ [] → IsPrepared (leaves_of old) ws old []
+pub start : (old : List (List (List (List Entry)))) (ws : List Written) → IsTree old → ws ≡ [] → IsPrepared (leaves_of old) ws old []
 start old ws tree none = subst (λ (ws : List Written). IsPrepared (leaves_of old) ws old []) (sym none) (record {
   tree = tree;
   cells = λ k. refl;
@@ -124,7 +124,7 @@ start old ws tree none = subst (λ (ws : List Written). IsPrepared (leaves_of ol
   within = λ k i. absurd i;
 })
 
-pub step : (leaves : List (List Entry)) (ws more : List Written) (w : Written) (old new : List (List (List Entry))) (keys noted : List CellKey) → find cell_key_cmp w.key (entries_of ws) ≡ None
+pub step : (leaves : List (List Entry)) (ws more : List Written) (w : Written) (old new : List (List (List (List Entry)))) (keys noted : List CellKey) → find cell_key_cmp w.key (entries_of ws) ≡ None
     → ((k : CellKey) → IsIn (map (λ (v : Written). v.key) ws) k → is_lt (cell_key_cmp k w.key) ≡ true) → more ≡ ws ++ w ∷ [] → IsPrepared leaves ws old keys → IsStep w old new keys noted → IsPrepared leaves more new noted
 step leaves ws more w old new keys noted none above is p s = subst (λ (all : List Written). IsPrepared leaves all new noted) (sym is) (record {
   tree = s.tree;
@@ -147,7 +147,7 @@ step leaves ws more w old new keys noted none above is p s = subst (λ (all : Li
 })
 
 -- a write of what is there leaves the tree
-pub step_none : (w : Written) (old : List (List (List Entry))) (keys : List CellKey) → IsTree old → map_of (leaves_of old) w.key ≡ w.cell → IsStep w old old keys keys
+pub step_none : (w : Written) (old : List (List (List (List Entry)))) (keys : List CellKey) → IsTree old → map_of (leaves_of old) w.key ≡ w.cell → IsStep w old old keys keys
 step_none w old keys tree there = record {
   tree = tree;
   cells = λ k. by_bool (same_cell_key k w.key)
@@ -157,5 +157,5 @@ step_none w old keys tree there = record {
   noted = inl (refl, there);
 }
 
-pub step_some : (w : Written) (old new : List (List (List Entry))) (keys more : List CellKey) → IsWritten w.key w.cell old new → more ≡ keys ++ w.key ∷ [] → map_of (leaves_of old) w.key ≢ w.cell → IsStep w old new keys more
+pub step_some : (w : Written) (old new : List (List (List (List Entry)))) (keys more : List CellKey) → IsWritten w.key w.cell old new → more ≡ keys ++ w.key ∷ [] → map_of (leaves_of old) w.key ≢ w.cell → IsStep w old new keys more
 step_some w old new keys more written is apart = record { tree = written.tree; cells = written.cells; shared = written.shared; noted = inr (is, apart) }

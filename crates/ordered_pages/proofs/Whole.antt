@@ -1,6 +1,6 @@
 -- A tree with one change.
 use Rattle.std.proofs.Common.{◌≡◌, ℕ, zero, suc, ◌<◌, ◌≤◌, ◌+◌, List, [], ◌∷◌, ◌++◌, Bool, true, false, cond, refl, sym, ap, subst, ◌∙◌, length, get_or, take, drop, Some, None, Option, arith, length-append, inl, inr}
-use Rattle.std.specs.Prelude.{not}
+use Rattle.std.specs.Prelude.{not, ⊤}
 use Rattle.std.proofs.lemmas.List.{get_or_default}
 use Rattle.std.specs.List.{flat_map}
 use Rattle.std.specs.Ordering.{is_eq}
@@ -14,11 +14,30 @@ use Rattle.world_cells.specs.CellLaws.{cell_key_is}
 use Rattle.ordered_pages.specs.declared.changes.Change.{Change}
 use Rattle.ordered_pages.specs.declared.changes.Change.TheVariants as change
 use Rattle.ordered_pages.specs.Entries.{Entry, AreRising, Each}
-use Rattle.ordered_pages.specs.Tree.{IsTree, IsBranch, IsLeaf, leaves_of, entries_in}
-use Rattle.ordered_pages.specs.Changes.{written, IsSpliced, IsShared}
+use Rattle.ordered_pages.specs.Tree.{IsTree, IsBough, IsBranch, IsLeaf, leaves_below, leaves_of, entries_in}
+use Rattle.ordered_pages.specs.Changes.{written, IsReplaced, IsShared}
 use Rattle.ordered_pages.specs.Changed.{key_of, put_of, after, IsChangedIn, IsTreeChanged}
-use Rattle.ordered_pages.proofs.Trees.{flat_append, in_tree, split_list}
+use Rattle.ordered_pages.proofs.Trees.{flat_append, flat_flat, in_tree, split_list}
+use Rattle.ordered_pages.proofs.Blocks.{each_at}
 use Rattle.ordered_pages.proofs.Sorts.{turned}
+
+abbrev Branch : Type 0
+Branch = List (List Entry)
+
+abbrev Bough : Type 0
+Bough = List Branch
+
+abbrev below : Bough → List Entry
+below g = flat_map (λ b. flat_map (λ l. flat_map (λ e. e ∷ []) l) b) g
+
+abbrev LeafReplaced : List Entry → List (List Entry) → Type 0
+LeafReplaced l ls = IsReplaced (λ e es. ⊤) l ls
+
+abbrev BranchReplaced : Branch → List Branch → Type 0
+BranchReplaced b bs = IsReplaced LeafReplaced b bs
+
+abbrev BoughReplaced : Bough → List Bough → Type 0
+BoughReplaced g gs = IsReplaced BranchReplaced g gs
 
 -- ---- cells after a change
 
@@ -75,57 +94,73 @@ more_entries : (leaves : List (List Entry)) → Each IsLeaf leaves → length le
 more_entries [] h = omega arith
 more_entries (l ∷ leaves) h = let some = h.0.some in let rest = more_entries leaves h.1 in omega (arith, length-append l (entries_in leaves))
 
-pub each_leaf : (root : List (List (List Entry))) → Each IsBranch root → Each IsLeaf (leaves_of root)
+each_append : {A : Type 0} (P : A → Type 0) (xs ys : List A) → Each P xs → Each P ys → Each P (xs ++ ys)
+each_append P [] ys h i = i
+each_append P (x ∷ xs) ys h i = (h.0, each_append P xs ys h.1 i)
+
+each_below : (g : Bough) → Each IsBranch g → Each IsLeaf (leaves_below g)
+each_below [] h = tt
+each_below (b ∷ g) h = each_append IsLeaf b (leaves_below g) h.0.each (each_below g h.1)
+
+pub each_leaf : (root : List Bough) → Each IsBough root → Each IsLeaf (leaves_of root)
 each_leaf [] h = tt
-each_leaf (b ∷ root) h = both b (leaves_of root) h.0.each (each_leaf root h.1)
-  where
-    both : (xs ys : List (List Entry)) → Each IsLeaf xs → Each IsLeaf ys → Each IsLeaf (xs ++ ys)
-    both [] ys h i = i
-    both (x ∷ xs) ys h i = (h.0, both xs ys h.1 i)
+each_leaf (g ∷ root) h = each_append IsLeaf (leaves_below g) (leaves_of root) (each_below g h.0.each) (each_leaf root h.1)
 
 few_after : (c : Change) → length (after c []) ≤ 1
 few_after (change.Put held) = omega arith
 few_after (change.Remove k) = omega arith
 
-abbrev Branch : Type 0
-Branch = List (List Entry)
-
-abbrev below : Branch → List Entry
-below b = flat_map (λ l. flat_map (λ e. e ∷ []) l) b
-
-abbrev Spliced : Branch → List Branch → Type 0
-Spliced s ss = IsSpliced s (flat_map (λ x. x) ss)
-
 -- of a tree without cells
-shared_none : (c : Change) (new : List Branch) → IsTree new → entries_in (leaves_of new) ≡ after c [] → IsShared 2 (leaves_of []) (leaves_of new)
+shared_none : (c : Change) (new : List Bough) → IsTree new → entries_in (leaves_of new) ≡ after c [] → IsShared 2 (leaves_of []) (leaves_of new)
 shared_none c new tree is =
     let few = few_after c in
     let more = more_entries (leaves_of new) (each_leaf new tree.sound) in
     let few_leaves : length (leaves_of new) ≤ 2 = let same = ap length is in omega arith in
     record { made = leaves_of new; few = few_leaves; from = λ x h. inr h }
 
-shared_some : (old new : List Branch) (at : ℕ) (bs : List Branch) → at < length old → new ≡ take at old ++ (bs ++ drop (at + 1) old) → Spliced (get_or old at []) bs → IsShared 2 (leaves_of old) (leaves_of new)
-shared_some old new at bs lt is s =
-    let b = get_or old at [] in
-    let front = leaves_of (take at old) in
-    let back = leaves_of (drop (at + 1) old) in
-    let whole : leaves_of old ≡ front ++ (b ++ back) = split_list (λ b. b) old at [] lt in
-    let from_b : (x : List Entry) → IsIn b x → IsIn (leaves_of old) x = λ x h. subst (λ (ls : List (List Entry)). IsIn ls x) (sym whole) (in_right front (b ++ back) x (in_left b back x h)) in
-    let parts : leaves_of new ≡ front ++ ((take s.at b ++ (s.made ++ drop (s.at + 1) b)) ++ back) =
-    ap leaves_of is ∙ flat_append (λ b. b) (take at old) (bs ++ drop (at + 1) old) ∙ ap (λ ls. front ++ ls) (flat_append (λ b. b) bs (drop (at + 1) old) ∙ ap (λ ls. ls ++ back) s.is) in
+-- of branches in the place of one
+shared_branch : (b : Branch) (bs : List Branch) → BranchReplaced b bs → IsShared 2 b (flat_map (λ x. x) bs)
+shared_branch b bs s = record {
+  made = s.made;
+  few = s.few;
+  from = λ x h.
+      by_append (take s.at b) (s.made ++ drop (s.at + 1) b) x (subst (λ (ls : List (List Entry)). IsIn ls x) s.is h) (λ i. inl (in_take s.at b x i))
+      (λ i. by_append s.made (drop (s.at + 1) b) x i (λ j. inr j) (λ j. inl (in_drop (s.at + 1) b x j)));
+}
+
+-- of items of which one made room for others
+shared_some : {A : Type 0} (leaves : A → List (List Entry)) (old new : List A) (at : ℕ) (made : List A) (d : A) → at < length old → new ≡ take at old ++ (made ++ drop (at + 1) old)
+    → IsShared 2 (leaves (get_or old at d)) (flat_map leaves made) → IsShared 2 (flat_map leaves old) (flat_map leaves new)
+shared_some leaves old new at made d lt is s =
+    let b = leaves (get_or old at d) in
+    let front = flat_map leaves (take at old) in
+    let back = flat_map leaves (drop (at + 1) old) in
+    let whole : flat_map leaves old ≡ front ++ (b ++ back) = split_list leaves old at d lt in
+    let parts : flat_map leaves new ≡ front ++ (flat_map leaves made ++ back) =
+    ap (flat_map leaves) is ∙ flat_append leaves (take at old) (made ++ drop (at + 1) old) ∙ ap (λ ls. front ++ ls) (flat_append leaves made (drop (at + 1) old)) in
     record {
       made = s.made;
       few = s.few;
       from = λ x h.
           by_append front _ x (subst (λ (ls : List (List Entry)). IsIn ls x) parts h)
           (λ i. inl (subst (λ (ls : List (List Entry)). IsIn ls x) (sym whole) (in_left front (b ++ back) x i)))
-          (λ i. by_append (take s.at b ++ (s.made ++ drop (s.at + 1) b)) back x i
-          (λ j. by_append (take s.at b) (s.made ++ drop (s.at + 1) b) x j (λ k. inl (from_b x (in_take s.at b x k)))
-          (λ k. by_append s.made (drop (s.at + 1) b) x k (λ l. inr l) (λ l. inl (from_b x (in_drop (s.at + 1) b x l)))))
+          (λ i. by_append (flat_map leaves made) back x i
+          (λ j. elim (s.from x j) [
+            | inl k ↦ inl (subst (λ (ls : List (List Entry)). IsIn ls x) (sym whole) (in_right front (b ++ back) x (in_left b back x k)))
+            | inr k ↦ inr k
+          ])
           (λ j. inl (subst (λ (ls : List (List Entry)). IsIn ls x) (sym whole) (in_right front (b ++ back) x (in_right b back x j)))));
     }
 
-pub tree_changed : (c : Change) (old new : List Branch) → IsTree old → IsChangedIn below IsBranch Spliced c old new → IsTreeChanged c old new
+-- of boughs in the place of one
+shared_bough : (g : Bough) (gs : List Bough) → 0 < length g → BoughReplaced g gs → IsShared 2 (leaves_below g) (leaves_of gs)
+shared_bough g gs some s =
+    let lt = s.there some in
+    subst (λ (ls : List (List Entry)). IsShared 2 (leaves_below g) ls) (sym (flat_flat (λ b. b) gs))
+    (shared_some (λ b. b) g (flat_map (λ x. x) gs) s.at s.made [] lt s.is
+    (shared_branch (get_or g s.at []) s.made (s.keeps (get_or g s.at []) lt (get_or_default g s.at [] _ lt))))
+
+pub tree_changed : (c : Change) (old new : List Bough) → IsTree old → IsChangedIn below IsBough BoughReplaced c old new → IsTreeChanged c old new
 tree_changed c old new tree one =
     let is : entries_in (leaves_of new) ≡ after c (entries_in (leaves_of old)) = sym (in_tree new) ∙ one.entries ∙ ap (after c) (in_tree old) in
     let new_tree : IsTree new = record { sound = one.sound; rising = subst AreRising (sym is) (rising_written (key_of c) (put_of c) (entries_in (leaves_of old)) tree.rising) } in
@@ -136,6 +171,11 @@ tree_changed c old new tree one =
       shared = by_old old new tree new_tree is one;
     }
   where
-    by_old : (old new : List Branch) → IsTree old → IsTree new → entries_in (leaves_of new) ≡ after c (entries_in (leaves_of old)) → IsChangedIn below IsBranch Spliced c old new → IsShared 2 (leaves_of old) (leaves_of new)
+    by_old : (old new : List Bough) → IsTree old → IsTree new → entries_in (leaves_of new) ≡ after c (entries_in (leaves_of old)) → IsChangedIn below IsBough BoughReplaced c old new → IsShared 2 (leaves_of old) (leaves_of new)
     by_old [] new tree new_tree is one = shared_none c new new_tree is
-    by_old (b ∷ old) new tree new_tree is one = let lt = one.there (omega arith) in shared_some (b ∷ old) new one.at one.made lt one.is (one.keeps _ lt (get_or_default (b ∷ old) one.at [] _ lt))
+    by_old (g ∷ old) new tree new_tree is one =
+        let lt = one.there (omega arith) in
+        let here = get_or (g ∷ old) one.at [] in
+        let bough : IsBough here = each_at IsBough (g ∷ old) one.at [] tree.sound lt in
+        shared_some leaves_below (g ∷ old) new one.at one.made [] lt one.is
+        (shared_bough here one.made bough.some (one.keeps here lt (get_or_default (g ∷ old) one.at [] _ lt)))

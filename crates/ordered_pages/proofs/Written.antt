@@ -18,11 +18,11 @@ use Rattle.std.specs.Borrow.{Bor}
 use Rattle.ordered_pages.specs.declared.changes.Change.{Change}
 use Rattle.ordered_pages.specs.declared.changes.Change.TheVariants as change
 use Rattle.ordered_pages.specs.Entries.{Entry, AreRising, passes, AllLeft, AreParted, Each, HasFirst, IsNode, begins_passed, IsBegun}
-use Rattle.ordered_pages.specs.Changes.{written, IsSpliced}
+use Rattle.ordered_pages.specs.Changes.{written, IsReplaced}
 use Rattle.ordered_pages.specs.Changed.{key_of, put_of, put_entries, after, IsChanged, IsChangedIn, IsHalved}
 use Rattle.ordered_pages.proofs.Blocks.{parted_back}
 use Rattle.ordered_pages.proofs.Sorts.{by_keys, above_other, below_other, parted_sorted, stop_stays}
-use Rattle.ordered_pages.proofs.Trees.{flat_append, singles, split_list}
+use Rattle.ordered_pages.proofs.Trees.{flat_flat, flat_append, singles, split_list}
 
 abbrev pub AllBelow : CellKey → List Entry → Type 0
 AllBelow k [] = ⊤
@@ -265,16 +265,12 @@ module _ {A : Type 0} (f : A → List Entry) (P : A → Type 0) (has_first : (x 
     keeps = λ y lt' is'. subst (λ (z : A). R z made) (is ∙ get_or_default xs at x y lt ∙ sym is') one.keeps;
   }
 
-flat_flat : {A B : Type 0} (f : A → List B) (xss : List (List A)) → flat_map (λ xs. flat_map f xs) xss ≡ flat_map f (flat_map (λ xs. xs) xss)
-flat_flat f [] = refl
-flat_flat f (xs ∷ xss) = ap (λ es. flat_map f xs ++ es) (flat_flat f xss) ∙ sym (flat_append f xs (flat_map (λ xs. xs) xss))
-
 -- a node of which an item was changed
 pub node_changed : {A : Type 0} (f : A → List Entry) (P : A → Type 0) (R : A → List A → Type 0) (c : Change) (old items : List A) (new : List (List A)) → IsChangedIn f P R c old items → IsHalved P items new
-    → IsChanged (λ s. flat_map f s) (IsNode P) (λ s ss. IsSpliced s (flat_map (λ x. x) ss)) c old new
+    → IsChanged (λ s. flat_map f s) (IsNode P) (λ s ss. IsReplaced R s ss) c old new
 node_changed f P R c old items new one halved = record {
   entries = flat_flat f new ∙ ap (flat_map f) halved.same ∙ one.entries;
   sound = halved.sound;
   few = halved.few;
-  keeps = record { at = one.at; made = one.made; few = one.few_made; is = halved.same ∙ one.is };
+  keeps = record { at = one.at; made = one.made; few = one.few_made; there = one.there; is = halved.same ∙ one.is; keeps = one.keeps };
 }

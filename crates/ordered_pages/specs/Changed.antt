@@ -7,7 +7,7 @@ use Rattle.world_cells.specs.declared.cells.Cell.{Cell}
 use Rattle.ordered_pages.specs.declared.changes.Change.{Change}
 use Rattle.ordered_pages.specs.declared.changes.Change.TheVariants as change
 use Rattle.ordered_pages.specs.Entries.{Entry, Each, IsNode}
-use Rattle.ordered_pages.specs.Changes.{written, IsShared, IsSpliced}
+use Rattle.ordered_pages.specs.Changes.{written, IsShared, IsReplaced}
 use Rattle.ordered_pages.specs.Tree.{IsTree, map_of, leaves_of, entries_in}
 use Rattle.world_cells.specs.CellOrder.{same_cell_key}
 
@@ -36,8 +36,8 @@ pub record IsChanged {A : Type 0} (f : A → List Entry) (P : A → Type 0) (R :
   pub keeps : R old new
 
 -- a node of which an item was changed: none, one or two nodes with what stays of its items
-abbrev pub IsNodeChanged : {A : Type 0} → (A → List Entry) → (A → Type 0) → Change → List A → List (List A) → Type 0
-IsNodeChanged f P change old new = IsChanged (λ s. flat_map f s) (λ s. IsNode P s) (λ s ss. IsSpliced s (flat_map (λ x. x) ss)) change old new
+abbrev pub IsNodeChanged : {A : Type 0} → (A → List Entry) → (A → Type 0) → (A → List A → Type 0) → Change → List A → List (List A) → Type 0
+IsNodeChanged f P R change old new = IsChanged (λ s. flat_map f s) (λ s. IsNode P s) (λ s ss. IsReplaced R s ss) change old new
 
 -- a list of nodes of which one was changed
 pub record IsChangedIn {A : Type 0} (f : A → List Entry) (P : A → Type 0) (R : A → List A → Type 0) (change : Change) (old new : List A) : Type 0 where
@@ -52,14 +52,14 @@ pub record IsChangedIn {A : Type 0} (f : A → List Entry) (P : A → Type 0) (R
   pub keeps : (x : A) → at < length old → x ≡ get_or old at x → R x made
 
 -- a tree with one change, whose leaves are those of the old one but at most two
-pub record IsTreeChanged (c : Change) (old new : List (List (List Entry))) : Type 0 where
+pub record IsTreeChanged (c : Change) (old new : List (List (List (List Entry)))) : Type 0 where
   pub tree : IsTree new
   pub entries : entries_in (leaves_of new) ≡ after c (entries_in (leaves_of old))
   pub cells : (k : CellKey) → map_of (leaves_of new) k ≡ cond (same_cell_key k (key_of c)) (put_of c) (map_of (leaves_of old) k)
   pub shared : IsShared 2 (leaves_of old) (leaves_of new)
 
 -- a tree with what a write puts at its key, or without what stood there
-pub record IsWritten (key : CellKey) (cell : Option Cell) (old new : List (List (List Entry))) : Type 0 where
+pub record IsWritten (key : CellKey) (cell : Option Cell) (old new : List (List (List (List Entry)))) : Type 0 where
   pub tree : IsTree new
   pub cells : (k : CellKey) → map_of (leaves_of new) k ≡ cond (same_cell_key k key) cell (map_of (leaves_of old) k)
   pub shared : IsShared 2 (leaves_of old) (leaves_of new)

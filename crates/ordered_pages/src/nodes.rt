@@ -174,6 +174,9 @@ fn begun<T: Node>(items: &Shared<T>, stop: &Stop) -> usize
     low
 }
 
+/// The most items of a node that is not split. A write copies each node on its way, so that small ones are cheap to change.
+const SPLIT: usize = 32;
+
 /// Items as none, one or two nodes, each with half of them where they are too many for one.
 fn halves<T: Node>(alloc: Global, items: Shared<T>) -> Result<Vec<Arc<Shared<T>>>, NoMemory>
     requires sound { Each T.is_sound items }
@@ -185,7 +188,7 @@ fn halves<T: Node>(alloc: Global, items: Shared<T>) -> Result<Vec<Arc<Shared<T>>
     if n == 0 {
         return Ok(nodes);
     }
-    if n <= 128 {
+    if n <= SPLIT {
         nodes.push(Arc::new(alloc, items)?)?;
         return Ok(nodes);
     }
@@ -257,13 +260,13 @@ impl<T: Node> Node for Shared<T> {
     ghost use Rattle.ordered_pages.specs.Changed.{IsNodeChanged};
     ghost use Rattle.ordered_pages.specs.Entries.{IsNode, AreRising};
     ghost use Rattle.ordered_pages.specs.EntryLaws.{node_has_first};
-    ghost use Rattle.ordered_pages.specs.Changes.{IsSpliced};
+    ghost use Rattle.ordered_pages.specs.Changes.{IsReplaced};
 
     ghost entries = { λ s. flat_map T.entries s };
 
     ghost is_sound = { λ s. IsNode T.is_sound s };
 
-    ghost replaces = { λ s ss. IsSpliced s (flat_map (λ x. x) ss) };
+    ghost replaces = { λ s ss. IsReplaced T.replaces s ss };
 
     fn first(&self) -> &Held {
         self.at(0).first()
@@ -290,7 +293,7 @@ impl<T: Node> Node for Shared<T> {
     ) -> Result<Vec<Arc<Shared<T>>>, NoMemory>
         requires sound { IsNode T.is_sound (arc_value this) }
         requires sorted { AreRising (flat_map T.entries (arc_value this)) }
-        ensures { IfOk result (λ nodes. IsNodeChanged T.entries T.is_sound change.now (arc_value this) (map arc_value nodes.items)) }
+        ensures { IfOk result (λ nodes. IsNodeChanged T.entries T.is_sound T.replaces change.now (arc_value this) (map arc_value nodes.items)) }
     {
         let items = Shared::owned(alloc, this)?;
         let items = items.changed_in(alloc, change)?;

@@ -1,4 +1,4 @@
-//! Pages: a map of cells in branches of leaves.
+//! Pages: a map of cells in boughs of branches of leaves.
 ghost use Rattle.std.specs.Prelude.{◌≡◌, ◌≤◌, ◌+◌, ◌*◌, ◌++◌, [], ◌↔◌, IsTrue, IfOk, Some, map, length};
 ghost use Rattle.world_cells.specs.Reads.{AreRisingKeys};
 ghost use Rattle.view_reads.specs.Counts.{counted};
@@ -12,7 +12,7 @@ ghost use Rattle.view_reads.specs.Recording.{pair_now};
 ghost use Rattle.ordered_pages.specs.Entries.{Entry, cells_of, passes, IsLastPassed, IsFirstLeft, Each};
 ghost use Rattle.ordered_pages.specs.Changed.{IsTreeChanged, IsWritten};
 ghost use Rattle.ordered_pages.specs.Finding.{at_key, within};
-ghost use Rattle.ordered_pages.specs.Tree.{leaves_of, entries_in, map_of, IsTree, branches_in, IsLeaf};
+ghost use Rattle.ordered_pages.specs.Tree.{leaves_below, leaves_of, entries_in, map_of, IsTree, boughs_in, IsLeaf};
 
 use crate::changes::{Change, Held};
 use crate::nodes::Node;
@@ -32,23 +32,26 @@ pub(crate) type Leaf = Shared<Held>;
 /// 1 to 128 leaves.
 pub(crate) type Branch = Shared<Leaf>;
 
+/// 1 to 128 branches.
+pub(crate) type Bough = Shared<Branch>;
+
 /// A map of cells. Contracts see its leaves, each a list of keys with their cells.
 #[derive(Drop)]
 pub struct Pages {
     alloc: Global,
-    root: Option<Arc<Shared<Branch>>>,
+    root: Option<Arc<Shared<Bough>>>,
 }
 
 impl Model for Pages {
     ghost use Rattle.std.specs.Prelude.{List as Listed};
     ghost use Rattle.ordered_pages.specs.Entries.{Entry};
-    ghost use Rattle.ordered_pages.specs.Tree.{leaves_of, IsTree, branches_in};
+    ghost use Rattle.ordered_pages.specs.Tree.{leaves_of, IsTree, boughs_in};
 
     ghost Value = { Listed (Listed Entry) };
 
-    ghost view = { λ p. leaves_of (branches_in p.root) };
+    ghost view = { λ p. leaves_of (boughs_in p.root) };
 
-    ghost invariant = { λ p. IsTree (branches_in p.root) };
+    ghost invariant = { λ p. IsTree (boughs_in p.root) };
 }
 
 impl Pages {
@@ -83,8 +86,8 @@ impl Pages {
 }
 
 /// The same root, shared. Its one error is want of memory.
-fn shared_root(root: &Option<Arc<Shared<Branch>>>) -> Result<Option<Arc<Shared<Branch>>>, NoMemory>
-    ensures { IfOk result (λ new. branches_in new ≡ branches_in root.now) }
+fn shared_root(root: &Option<Arc<Shared<Bough>>>) -> Result<Option<Arc<Shared<Bough>>>, NoMemory>
+    ensures { IfOk result (λ new. boughs_in new ≡ boughs_in root.now) }
 {
     match root {
         Some(root) => Ok(Some(Arc::try_clone(root)?)),
@@ -92,12 +95,9 @@ fn shared_root(root: &Option<Arc<Shared<Branch>>>) -> Result<Option<Arc<Shared<B
     }
 }
 
-/// The branches of a root, shared, or none. Its one error is want of memory.
-fn branches_of(
-    alloc: Global,
-    root: &Option<Arc<Shared<Branch>>>,
-) -> Result<Shared<Branch>, NoMemory>
-    ensures { IfOk result (λ new. new ≡ branches_in root.now) }
+/// The boughs of a root, shared, or none. Its one error is want of memory.
+fn boughs_of(alloc: Global, root: &Option<Arc<Shared<Bough>>>) -> Result<Shared<Bough>, NoMemory>
+    ensures { IfOk result (λ new. new ≡ boughs_in root.now) }
 {
     match root {
         Some(root) => Shared::front_of(alloc, root, root.len()),
@@ -106,7 +106,7 @@ fn branches_of(
 }
 
 /// The last cell that a search passes.
-fn up_to<'a>(root: &'a Shared<Branch>, stop: &Stop) -> Option<&'a Held>
+fn up_to<'a>(root: &'a Shared<Bough>, stop: &Stop) -> Option<&'a Held>
     requires { IsTree root.now }
     ensures { IsLastPassed (passes stop.now) (map_of (leaves_of root.now)) (option_copied result) }
 {
@@ -114,7 +114,7 @@ fn up_to<'a>(root: &'a Shared<Branch>, stop: &Stop) -> Option<&'a Held>
 }
 
 /// The first cell that a search does not pass.
-fn left<'a>(root: &'a Shared<Branch>, stop: &Stop) -> Option<&'a Held>
+fn left<'a>(root: &'a Shared<Bough>, stop: &Stop) -> Option<&'a Held>
     requires { IsTree root.now }
     ensures { IsFirstLeft (passes stop.now) (map_of (leaves_of root.now)) (option_copied result) }
 {
@@ -150,9 +150,9 @@ fn within<'a>(found: Option<&'a Held>, span: &Span) -> Option<(&'a CellKey, &'a 
 /// A tree with one change. Its one error is want of memory.
 fn with_change(
     alloc: Global,
-    root: Shared<Branch>,
+    root: Shared<Bough>,
     change: &Change,
-) -> Result<Shared<Branch>, NoMemory>
+) -> Result<Shared<Bough>, NoMemory>
     requires { IsTree root }
     ensures { IfOk result (λ new. IsTreeChanged change.now root new) }
 {
@@ -160,7 +160,7 @@ fn with_change(
 }
 
 /// A tree with these cells, which are put from the last one to the first. Its one error is want of memory.
-fn filled(alloc: Global, cells: Vec<Held>) -> Result<Shared<Branch>, NoMemory>
+fn filled(alloc: Global, cells: Vec<Held>) -> Result<Shared<Bough>, NoMemory>
     requires { AreRisingKeys (map (λ e. e.0) cells.items) }
     ensures { IfOk result (λ new. IsFilled cells.items new) }
 {
@@ -187,10 +187,10 @@ fn copied_cell(alloc: Global, cell: &Cell) -> Result<Cell, NoMemory>
 /// A tree with a cell put. Its one error is want of memory.
 fn with_cell(
     alloc: Global,
-    root: Shared<Branch>,
+    root: Shared<Bough>,
     key: &CellKey,
     cell: &Cell,
-) -> Result<Shared<Branch>, NoMemory>
+) -> Result<Shared<Bough>, NoMemory>
     requires { IsTree root }
     ensures { IfOk result (λ new. IsWritten key.now (Some cell.now) root new) }
 {
@@ -201,9 +201,9 @@ fn with_cell(
 /// A tree with a write. Its one error is want of memory.
 fn with_write(
     alloc: Global,
-    root: Shared<Branch>,
+    root: Shared<Bough>,
     written: &Written,
-) -> Result<Shared<Branch>, NoMemory>
+) -> Result<Shared<Bough>, NoMemory>
     requires { IsTree root }
     ensures { IfOk result (λ new. IsWritten written.now.key written.now.cell root new) }
 {
@@ -214,7 +214,7 @@ fn with_write(
 }
 
 /// The cell at a key.
-fn find<'a>(root: &'a Shared<Branch>, key: &CellKey) -> Option<&'a Cell>
+fn find<'a>(root: &'a Shared<Bough>, key: &CellKey) -> Option<&'a Cell>
     requires { IsTree root.now }
     ensures { option_copied result ≡ map_of (leaves_of root.now) key.now }
 {
@@ -236,11 +236,11 @@ fn is_there(found: Option<&Cell>, cell: &Option<Cell>) -> bool
 /// is want of memory.
 fn written(
     alloc: Global,
-    root: Shared<Branch>,
+    root: Shared<Bough>,
     write: &Written,
     keys: &mut Vec<CellKey>,
     work: &mut Work,
-) -> Result<Shared<Branch>, NoMemory>
+) -> Result<Shared<Bough>, NoMemory>
     requires { IsTree root }
     ensures ok { IfOk result (λ new. IsStep write.now root new keys.old.items keys.new.items) }
     ensures work { work.new.done ≡ counted work.old.done }
@@ -257,7 +257,7 @@ fn written(
 /// Pages with writes, ready to be installed. Contracts see their leaves.
 #[derive(Drop)]
 pub struct Ready {
-    root: Arc<Shared<Branch>>,
+    root: Arc<Shared<Bough>>,
 }
 
 impl Model for Ready {
@@ -276,10 +276,10 @@ impl Model for Ready {
 /// A tree with writes, and the keys whose cells they change.
 fn with_writes(
     alloc: Global,
-    root: Shared<Branch>,
+    root: Shared<Bough>,
     writes: &[Written],
     work: &mut Work,
-) -> Result<(Shared<Branch>, Vec<CellKey>), NoMemory>
+) -> Result<(Shared<Bough>, Vec<CellKey>), NoMemory>
     requires tree { IsTree root }
     requires rising { AreRisingKeys (map (λ w. w.key) writes.now) }
     ensures ok { IfOk result (λ r. IsPrepared (leaves_of root) writes.now r.0 r.1.items) }
@@ -304,7 +304,7 @@ impl Pages {
         ensures shared { IfOk result (λ r. IsShared (2 * length writes.now.cells) self.now r.0) }
         ensures work { work.new.done ≤ work.old.done + length writes.now.cells }
     {
-        let start = branches_of(self.alloc, &self.root)?;
+        let start = boughs_of(self.alloc, &self.root)?;
         let (new, keys) = with_writes(self.alloc, start, writes.cells.as_slice(), work)?;
         Ok((
             Ready {
@@ -335,13 +335,23 @@ fn add_lengths(branch: &Branch, lengths: &mut Vec<usize>) -> Result<(), NoMemory
     Ok(())
 }
 
+/// Adds how many cells each leaf of a bough has.
+fn add_bough_lengths(bough: &Bough, lengths: &mut Vec<usize>) -> Result<(), NoMemory>
+    ensures { IfOk result (λ _. lengths.new.items ≡ lengths.old.items ++ map length (leaves_below bough.now)) }
+{
+    for i in 0..bough.len() {
+        add_lengths(bough.at(i), lengths)?;
+    }
+    Ok(())
+}
+
 /// How many cells each leaf below a root has.
-fn all_lengths(alloc: Global, root: &Shared<Branch>) -> Result<Vec<usize>, NoMemory>
+fn all_lengths(alloc: Global, root: &Shared<Bough>) -> Result<Vec<usize>, NoMemory>
     ensures { IfOk result (λ v. v.items ≡ map length (leaves_of root.now)) }
 {
     let mut lengths = Vec::new(alloc);
     for i in 0..root.len() {
-        add_lengths(root.at(i), &mut lengths)?;
+        add_bough_lengths(root.at(i), &mut lengths)?;
     }
     Ok(lengths)
 }
@@ -360,9 +370,9 @@ impl Pages {
 }
 
 /// The cell at a key below a root.
-fn find_below<'a>(root: &'a Option<Arc<Shared<Branch>>>, key: &CellKey) -> Option<&'a Cell>
-    requires { IsTree (branches_in root.now) }
-    ensures { option_copied result ≡ map_of (leaves_of (branches_in root.now)) key.now }
+fn find_below<'a>(root: &'a Option<Arc<Shared<Bough>>>, key: &CellKey) -> Option<&'a Cell>
+    requires { IsTree (boughs_in root.now) }
+    ensures { option_copied result ≡ map_of (leaves_of (boughs_in root.now)) key.now }
 {
     match root {
         Some(root) => find(root, key),
@@ -371,9 +381,9 @@ fn find_below<'a>(root: &'a Option<Arc<Shared<Branch>>>, key: &CellKey) -> Optio
 }
 
 /// The last cell below a root that a search passes.
-fn up_to_below<'a>(root: &'a Option<Arc<Shared<Branch>>>, stop: &Stop) -> Option<&'a Held>
-    requires { IsTree (branches_in root.now) }
-    ensures { IsLastPassed (passes stop.now) (map_of (leaves_of (branches_in root.now))) (option_copied result) }
+fn up_to_below<'a>(root: &'a Option<Arc<Shared<Bough>>>, stop: &Stop) -> Option<&'a Held>
+    requires { IsTree (boughs_in root.now) }
+    ensures { IsLastPassed (passes stop.now) (map_of (leaves_of (boughs_in root.now))) (option_copied result) }
 {
     match root {
         Some(root) => up_to(root, stop),
@@ -382,9 +392,9 @@ fn up_to_below<'a>(root: &'a Option<Arc<Shared<Branch>>>, stop: &Stop) -> Option
 }
 
 /// The first cell below a root that a search does not pass.
-fn left_below<'a>(root: &'a Option<Arc<Shared<Branch>>>, stop: &Stop) -> Option<&'a Held>
-    requires { IsTree (branches_in root.now) }
-    ensures { IsFirstLeft (passes stop.now) (map_of (leaves_of (branches_in root.now))) (option_copied result) }
+fn left_below<'a>(root: &'a Option<Arc<Shared<Bough>>>, stop: &Stop) -> Option<&'a Held>
+    requires { IsTree (boughs_in root.now) }
+    ensures { IsFirstLeft (passes stop.now) (map_of (leaves_of (boughs_in root.now))) (option_copied result) }
 {
     match root {
         Some(root) => left(root, stop),
