@@ -7,7 +7,6 @@ use Rattle.world_cells.specs.World.{empty_world}
 use Rattle.http_messages.specs.declared.ends.SessionEnd.{SessionEnd}
 use Rattle.http_messages.specs.declared.ends.SessionEnd.TheVariants.{Closed, Refused, CutShort, ReadFault, WriteFault, NoMemory, Worn}
 use Rattle.http_model.specs.Served.{Served}
-use Rattle.resource_schema.specs.declared.schema.Schema.{Schema}
 use Rattle.resource_schema.specs.Kinds.{notes}
 use Rattle.task_forms.specs.declared.tasks.Entry.{Entry}
 use Rattle.task_forms.specs.Meaning.{IsLegal}
@@ -46,10 +45,6 @@ path_of (word ∷ path ∷ []) = if bytes_eq word (codes "pipe") then Some path 
 path_of words = None
 
 -- ---- a session
-
--- a subject's kind is its schema
-abbrev pub subject_kind : Schema → Schema
-subject_kind schema = schema
 
 -- the exit status for an end of the session
 abbrev pub status_of : SessionEnd → ℕ

@@ -4,7 +4,8 @@ ghost use Rattle.resource_schema.specs.Kinds.{notes};
 ghost use Rattle.world_cells.specs.World.{empty_world};
 ghost use Rattle.store_model.specs.StoreMeaning.{meaning_of};
 ghost use Rattle.commit_core.specs.Standing.{StandsFor};
-ghost use Rattle.commands.specs.Pipes.{is_pipe, path_of, status_of, subject_kind, Session, Pipes, PipesRead, ends, PipesBy};
+ghost use Rattle.task_run.specs.Subjects.{subject_kind};
+ghost use Rattle.commands.specs.Pipes.{is_pipe, path_of, status_of, Session, Pipes, PipesRead, ends, PipesBy};
 
 use crate::connections::serve_counted;
 use command_lines::{SchemaRead, read_schema_file, refuse, refuse_schema};

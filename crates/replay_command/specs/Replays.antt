@@ -4,7 +4,6 @@ use Rattle.std.specs.Str.{bytes_eq}
 use Rattle.outer_ends.specs.Told.{SourceTold, SinkTold}
 use Rattle.history_model.specs.declared.checks.TheConstants.{LOG_WINDOW}
 use Rattle.request_model.specs.Plans.{planned}
-use Rattle.resource_schema.specs.declared.schema.Schema.{Schema}
 use Rattle.session_engine.specs.Plans.{plans_of}
 use Rattle.store_model.specs.StoreMeaning.{meaning_of}
 use Rattle.task_forms.specs.Meaning.{IsLegal}
@@ -28,10 +27,6 @@ is_replay words = false
 -- for want of memory nothing was written
 abbrev pub RunsOut : SinkTold → SinkTold → ℕ → Type 0
 RunsOut sink sink_now status = (status ≡ 5) × (sink_now ≡ sink)
-
--- a subject's kind is its schema
-abbrev pub subject_kind : Schema → Schema
-subject_kind schema = schema
 
 -- what is reported is a run of the script's steps over its streams, from the empty world, by one legal history
 abbrev pub IsReportOf : Script → Report → Type 0

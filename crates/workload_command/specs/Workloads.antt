@@ -20,10 +20,6 @@ use Rattle.workload_command.specs.Blog.{blog_text}
 use Rattle.workload_command.specs.Counts.{counts_of, counts_text}
 use Rattle.workload_command.specs.Words.{workload_words}
 
--- a subject's kind is its schema
-abbrev pub subject_kind : Schema → Schema
-subject_kind schema = schema
-
 -- what is counted of a session over these bytes, which answered all their requests by the entries of one legal history from the empty world
 pub record IsCounted (schema : Schema) (input : List ℕ) (counts : Counts) : Type 0 where
   pub entries : List Entry

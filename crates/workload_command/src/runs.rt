@@ -5,7 +5,8 @@ ghost use Rattle.store_model.specs.StoreMeaning.{meaning_of};
 ghost use Rattle.commit_core.specs.Standing.{StandsFor};
 ghost use Rattle.workload_command.specs.declared.words.TheConstants.{REQUEST_LIMIT};
 ghost use Rattle.workload_command.specs.Tallies.{capped, tally_of};
-ghost use Rattle.workload_command.specs.Workloads.{IsCounted, IsCountedOf, subject_kind};
+ghost use Rattle.task_run.specs.Subjects.{subject_kind};
+ghost use Rattle.workload_command.specs.Workloads.{IsCounted, IsCountedOf};
 
 use crate::blog::blog_schema;
 use crate::counts::Counts;

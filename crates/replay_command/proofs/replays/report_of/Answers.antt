@@ -10,7 +10,7 @@ use Rattle.world_cells.specs.World.{empty_world}
 use Rattle.commit_core.specs.Standing.{StandsFor}
 use Rattle.task_run.specs.Lawful.{meaning_is_lawful}
 use Rattle.replay_runs.specs.Running.{IsReported}
-use Rattle.replay_command.specs.Replays.{subject_kind}
+use Rattle.task_run.specs.Subjects.{subject_kind}
 use Rattle.replay_command.proofs.Weaker.{weaker}
 use Rattle.replay_command.proofs.replays.report_of.Goals as goal
 
