@@ -83,15 +83,21 @@ fn reads(alloc: Global) -> Result<Option<SnapshotReads>, NoMemory> {
     )
 }
 
+/// Whether old trials are refused, and one that is not old is not.
+fn are_refused(alloc: Global) -> Result<bool, NoMemory> {
+    let aged = setback_after(alloc, 1, 2)?;
+    let met = setback_after(alloc, 2, 2)?;
+    let fresh = setback_after(alloc, 1, 0)?;
+    Ok(
+        aged == Some((1, Setback::Aged(1)))
+            && met == Some((1, Setback::Conflict(1)))
+            && fresh == None,
+    )
+}
+
 #[test]
 fn old_trials_are_refused(rt: HostRuntime) -> Result<(), Fail> {
-    let alloc = rt.alloc();
-    assert_eq!(rt; setback_after(alloc, 1, 2)?, Some((1, Setback::Aged(1))));
-    assert_eq!(rt;
-        setback_after(alloc, 2, 2)?,
-        Some((1, Setback::Conflict(1)))
-    );
-    assert_eq!(rt; setback_after(alloc, 1, 0)?, None);
+    assert!(rt; are_refused(rt.alloc())?);
     Ok(())
 }
 
@@ -103,21 +109,18 @@ fn is_empty(body: &[u8]) -> bool {
     }
 }
 
+/// Whether the snapshot's list is empty before and after the new notes, that of the core then is not, and the trial of the snapshot is refused.
+fn is_kept(reads: SnapshotReads) -> bool {
+    let before = reads.before.reply.body.as_slice();
+    let later = reads.later.reply.body.as_slice();
+    let after = reads.after.reply.body.as_slice();
+    let read = is_empty(before) && later == before && !is_empty(after);
+    read && setback_of(&Some(reads.end)) == Some((1, Setback::Conflict(1)))
+}
+
 #[test]
 fn snapshots_are_kept(rt: HostRuntime) -> Result<(), Fail> {
-    let Some(reads) = reads(rt.alloc())? else {
-        assert!(rt; false, "a message had no task");
-        return Ok(());
-    };
-    assert!(rt; is_empty(reads.before.reply.body.as_slice()));
-    assert_eq!(rt;
-        reads.later.reply.body.as_slice(),
-        reads.before.reply.body.as_slice()
-    );
-    assert!(rt; !is_empty(reads.after.reply.body.as_slice()));
-    assert_eq!(rt;
-        setback_of(&Some(reads.end)),
-        Some((1, Setback::Conflict(1)))
-    );
+    let reads = reads(rt.alloc())?;
+    assert!(rt; reads.is_some_and(is_kept));
     Ok(())
 }
