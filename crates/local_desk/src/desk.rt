@@ -13,8 +13,8 @@ use std::marker::Model;
 use task_forms::{Desk, DeskEnd, Task};
 use trial_subject::Subject;
 
-/// A desk on a core of its own, which stands for a legal history. Each task is a stepper that is driven to its end. All entries are its own, and
-/// have the number 0. Contracts see the core.
+/// A desk on a core of its own, which stands for a legal history. Each task is tried on the core as it is and committed. All entries are its own,
+/// and have the number 0. Contracts see the core.
 #[derive(Drop)]
 pub struct LocalDesk<S: Subject + Drop> {
     alloc: Global,

@@ -1,4 +1,4 @@
-//! A desk on a core of its own: each task is a stepper over the core that is driven to its end (of this project).
+//! A desk on a core of its own: each task is tried on the core as it is and committed (of this project).
 #![tactic(auto)]
 
 mod alone;

@@ -1,17 +1,13 @@
-use Rattle.std.proofs.Common.{◌≡◌, ℕ, List, Some}
-use Rattle.world_cells.specs.World.{World}
-use Rattle.task_forms.specs.declared.tasks.Entry.{Entry}
-use Rattle.commit_core.specs.Standing.{StandsFor, meaning_in}
-use Rattle.core_steps.specs.Stepping.{task_in, steps_left}
-use Rattle.core_steps.specs.Steps.{IsReady}
+use Rattle.std.proofs.Common.{◌≡◌, ◌-◌, ◌≤◌}
 use Rattle.local_desk.proofs.alone.answer_alone.Given as goal
 
-abbrev pub invariant-stepping : goal.invariant-stepping
-invariant-stepping g l = record {
+abbrev pub invariant-trying : goal.invariant-trying
+invariant-trying g l = record {
   same : l.core ≡ l.fn.core;
-  task : task_in l.stepper ≡ Some l.fn.task;
-  ready : (first : ℕ) (w : World) (h : List Entry) → StandsFor g.S.Answers.kind g.S.Means.meaning l.fn.core first w h → IsReady (meaning_in g.S.Answers.kind g.S.Means.meaning l.fn.core) first w h l.stepper;
+  task : l.attempt.task ≡ l.fn.task;
+  refused : l.attempt.refused ≤ 3;
+  last : l.attempt.last ≤ l.fn.core.tally.count;
 }
 
-abbrev pub decreases-stepping : goal.decreases-stepping
-decreases-stepping g l = steps_left l.stepper
+abbrev pub decreases-trying : goal.decreases-trying
+decreases-trying g l = 3 - l.attempt.refused
