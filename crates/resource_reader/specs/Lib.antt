@@ -3,3 +3,4 @@ pub mod Names
 pub mod Arrays
 pub mod Fields
 pub mod OwnIds
+pub mod Spots

@@ -7,12 +7,14 @@ ghost use Rattle.resource_schema.specs.declared.kinds.TheConstants.{ATTRIBUTE_LI
 ghost use Rattle.request_model.specs.Words.{all_ok, all_some};
 ghost use Rattle.request_model.specs.Documents.{given_value, given_values, value_or_default, all_values};
 ghost use Rattle.document_parts.specs.Walks.{members_in};
-ghost use Rattle.ident_rules.specs.StepErrors.{Gives};
-ghost use Rattle.resource_reader.specs.Fields.{is_no_at_member, fields_among};
+ghost use Rattle.document_parts.specs.Pointers.{member_pointer};
+ghost use Rattle.error_objects.specs.Refusals.{at_pointer};
+ghost use Rattle.ident_rules.specs.StepErrors.{Gives, IsStop};
+ghost use Rattle.resource_reader.specs.Fields.{is_no_at_member, fields_among, attributes_pointer};
 
-use crate::parts::object_at;
-use crate::refusals::refuse_in;
-use document_parts::{member_pointer, read_value};
+use crate::parts::object_in;
+use crate::refusals::refuse_below;
+use document_parts::read_value;
 use error_objects::{Code, Refusal};
 use ident_rules::{List, NoMemory, StepError};
 use json_forms::member;
@@ -27,6 +29,13 @@ pub fn is_field_name(name: &str) -> bool
     !name.starts_with('@')
 }
 
+/// A refusal of the attribute of that name of the resource object that the pointer leads to.
+fn refuse_attribute(alloc: Global, code: Code, at: &str, name: &str) -> StepError<Refusal>
+    ensures { IsStop result (at_pointer code (member_pointer (attributes_pointer at.now) name.now)) }
+{
+    refuse_below(alloc, code, at, "attributes", name)
+}
+
 /// The attribute at a place.
 fn nth_attribute(attributes: &[Attribute], place: u32) -> Option<&Attribute>
     ensures { option_copied result ≡ slice_get attributes.now place }
@@ -34,44 +43,44 @@ fn nth_attribute(attributes: &[Attribute], place: u32) -> Option<&Attribute>
     attributes.get(place as usize)
 }
 
-/// One attribute: known, and with a value of its form.
+/// One attribute of the resource object that the pointer leads to: known, and with a value of its form.
 fn read_given_value(
     alloc: Global,
     schema: &Schema,
     kind: u32,
-    group: &str,
+    at: &str,
     name: &str,
     value: &Value,
 ) -> Result<(u32, AttrValue), StepError<Refusal>>
-    ensures { Gives result (given_value schema.now kind group.now (name.now, view value.now)) }
+    ensures { Gives result (given_value schema.now kind (attributes_pointer at.now) (name.now, view value.now)) }
 {
     let Some(number) = schema.attribute_of(kind, name) else {
-        return Err(refuse_in(alloc, Code::UnknownField, group, name));
+        return Err(refuse_attribute(alloc, Code::UnknownField, at, name));
     };
     let Some(attribute) = nth_attribute(schema.attributes_of(kind), number) else {
-        return Err(refuse_in(alloc, Code::UnknownField, group, name));
+        return Err(refuse_attribute(alloc, Code::UnknownField, at, name));
     };
     match read_value(alloc, attribute.form, attribute.nullable, value)? {
         Some(given) => Ok((number, given)),
-        None => Err(refuse_in(alloc, Code::BadValue, group, name)),
+        None => Err(refuse_attribute(alloc, Code::BadValue, at, name)),
     }
 }
 
-/// The attributes that an object gives, each in order.
+/// The attributes that the members of `attributes` give, each in order.
 fn read_attributes(
     alloc: Global,
     schema: &Schema,
     kind: u32,
-    group: &str,
+    at: &str,
     members: &Map<String, Value>,
 ) -> Result<List<(u32, AttrValue)>, StepError<Refusal>>
-    ensures { Gives result (all_ok (map (given_value schema.now kind group.now) (fields_among (members_in members.now)))) }
+    ensures { Gives result (all_ok (map (given_value schema.now kind (attributes_pointer at.now)) (fields_among (members_in members.now)))) }
 {
     let mut values = Vec::new(alloc);
     for (name, value) in members {
         let name = name.as_str();
         if is_field_name(name) {
-            match read_given_value(alloc, schema, kind, group, name, value) {
+            match read_given_value(alloc, schema, kind, at, name, value) {
                 Ok(given) => values.push(given)?,
                 Err(stop) => return Err(stop),
             }
@@ -93,9 +102,8 @@ pub fn read_given_values(
     match member(value, "attributes") {
         None => Ok(List::from_vec(Vec::new(alloc))),
         Some(given) => {
-            let group = member_pointer(alloc, at, "attributes")?;
-            let members = object_at(alloc, group.as_str(), given)?;
-            read_attributes(alloc, schema, kind, group.as_str(), members)
+            let members = object_in(alloc, at, "attributes", given)?;
+            read_attributes(alloc, schema, kind, at, members)
         }
     }
 }
