@@ -25,6 +25,14 @@ fn push_name(pointer: &mut String, alloc: Global, name: &str) -> Result<(), NoMe
     }
 }
 
+/// Appends `/` and a name to a pointer, which then leads to the member of that name.
+fn push_member(pointer: &mut String, alloc: Global, name: &str) -> Result<(), NoMemory>
+    ensures { OnOk result (string_bytes pointer.new ≡ member_pointer (string_bytes pointer.old) name.now) }
+{
+    pointer.push_str("/")?;
+    push_name(pointer, alloc, name)
+}
+
 /// The pointer of the member of that name in the object that the pointer `at` leads to (RFC 6901, section 3). Its one
 /// error is want of memory.
 pub fn member_pointer(alloc: Global, at: &str, name: &str) -> Result<Text, NoMemory>
@@ -33,8 +41,7 @@ pub fn member_pointer(alloc: Global, at: &str, name: &str) -> Result<Text, NoMem
     let room = at.len().saturating_add(name.len()).saturating_add(1);
     let mut pointer = String::with_capacity(alloc, room)?;
     pointer.push_str(at)?;
-    pointer.push_str("/")?;
-    push_name(&mut pointer, alloc, name)?;
+    push_member(&mut pointer, alloc, name)?;
     Ok(Text::from_string(pointer))
 }
 
@@ -45,4 +52,24 @@ pub fn item_pointer(alloc: Global, at: &str, place: u32) -> Result<Text, NoMemor
 {
     let mut digits = itoa::Buffer::new();
     member_pointer(alloc, at, digits.format(place))
+}
+
+/// The pointer of the member of that name in the item at that place, from 0, in the array that the pointer `at` leads to
+/// (RFC 6901, sections 3 and 4). Its one error is want of memory.
+pub fn item_member_pointer(
+    alloc: Global,
+    at: &str,
+    place: u32,
+    name: &str,
+) -> Result<Text, NoMemory>
+    ensures { IfOk result (λ t. t ≡ member_pointer (item_pointer at.now place) name.now) }
+{
+    let mut digits = itoa::Buffer::new();
+    let number = digits.format(place);
+    let room = at.len().saturating_add(name.len()).saturating_add(12);
+    let mut pointer = String::with_capacity(alloc, room)?;
+    pointer.push_str(at)?;
+    push_member(&mut pointer, alloc, number)?;
+    push_member(&mut pointer, alloc, name)?;
+    Ok(Text::from_string(pointer))
 }
