@@ -1,5 +1,5 @@
 -- Parts of an operation (Atomic Operations extension, "Operation Objects").
-use Rattle.std.specs.Prelude.{ℕ, ◌==◌, not, nat_lt, List, [], codes, length, map, Result, Ok}
+use Rattle.std.specs.Prelude.{ℕ, ◌==◌, not, nat_lt, List, [], codes, decimal, length, map, Result, Ok}
 use Rattle.std.specs.Option.{ok_or}
 use Rattle.std.specs.List.{enumerate_from}
 use Rattle.serde_json.specs.Data.{Data}
@@ -27,7 +27,7 @@ ref_name kind at d = do
   Ok name
 
 -- the pointer of the operation at a place of the list
-abbrev pub operation_pointer : ℕ → List ℕ
+unfoldable pub operation_pointer : ℕ → List ℕ
 operation_pointer place = item_pointer list_pointer place
 
 -- the pointer of a member of it
@@ -36,7 +36,7 @@ part_pointer place name = member_pointer (operation_pointer place) name
 
 -- the operation at a place
 abbrev pub operation_at : Schema → ℕ × Data → Result Operation Refusal
-operation_at schema p = operation_of schema (operation_pointer p.0) p.1
+operation_at schema p = operation_of schema (list_pointer // decimal p.0) p.1
 
 -- the operations of an array
 abbrev pub items_operations : Schema → List Data → Result (List Operation) Refusal

@@ -1,4 +1,4 @@
-ghost use Rattle.std.specs.Prelude.{◌≡◌, List as Listed, Result, option_map};
+ghost use Rattle.std.specs.Prelude.{◌≡◌, List as Listed, Result, codes, option_map};
 ghost use Rattle.serde_json.specs.View.{view};
 ghost use Rattle.error_objects.specs.declared.refusals.Refusal.{Refusal};
 ghost use Rattle.error_objects.specs.Refusals.{IsRead};
@@ -9,7 +9,7 @@ ghost use Rattle.request_model.specs.Words.{result_map};
 ghost use Rattle.request_model.specs.OperationLists.{operation_by, operation_of, with_data};
 ghost use Rattle.ident_rules.specs.StepErrors.{Gives};
 ghost use Rattle.resource_reader.specs.Reads.{IsReadVec};
-ghost use Rattle.operation_reader.specs.Parts.{operation_pointer};
+ghost use Rattle.operation_reader.specs.Parts.{operation_pointer, part_pointer};
 
 use crate::acts::act_of;
 use crate::aims::aim_by;
@@ -91,6 +91,20 @@ fn with_data(
     }
 }
 
+/// The operation at that place of the list, with the data that is its member.
+fn with_own_data(
+    alloc: Global,
+    schema: &Schema,
+    place: u32,
+    act: Act,
+    value: &Value,
+) -> Result<Operation, StepError<Refusal>>
+    ensures { Gives result (with_data schema.now (part_pointer place (codes "data")) act (view value.now)) }
+{
+    let at = part_pointer(alloc, place, "data")?;
+    with_data(alloc, schema, at.as_str(), act, value)
+}
+
 /// The operation with its data, which the removal of a resource does not need.
 fn operation_by(
     alloc: Global,
@@ -107,8 +121,7 @@ fn operation_by(
     let Some(value) = found else {
         return Err(bad_operation(alloc, place));
     };
-    let at = part_pointer(alloc, place, "data")?;
-    with_data(alloc, schema, at.as_str(), act, value)
+    with_own_data(alloc, schema, place, act, value)
 }
 
 /// An object, whatever is in it.

@@ -9,6 +9,7 @@ use std::alloc::Global;
 pub const LIST_POINTER: &str = "/atomic:operations";
 
 /// The pointer of the operation at that place of the list.
+#[tactic(auto, unfolding(crate::specs::Parts::operation_pointer))]
 pub fn operation_pointer(alloc: Global, place: u32) -> Result<Text, NoMemory>
     ensures { IfOk result (λ t. t ≡ operation_pointer place) }
 {
@@ -16,6 +17,7 @@ pub fn operation_pointer(alloc: Global, place: u32) -> Result<Text, NoMemory>
 }
 
 /// The pointer of the member of that name of the operation at that place of the list.
+#[tactic(auto, unfolding(crate::specs::Parts::operation_pointer))]
 pub fn part_pointer(alloc: Global, place: u32, name: &str) -> Result<Text, NoMemory>
     ensures { IfOk result (λ t. t ≡ part_pointer place name.now) }
 {
