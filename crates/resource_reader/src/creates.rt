@@ -145,7 +145,7 @@ pub fn create_of(
     let lid = local_id_in(alloc, at, value)?;
     let given = read_given_values(alloc, schema, kind, at, value)?;
     let links = read_given_links(alloc, schema, kind, at, value)?;
-    match all_values(alloc, schema, kind, given.as_slice())? {
+    match all_values(alloc, schema, kind, given)? {
         Some(values) => Ok(Operation::Create {
             kind,
             id,
