@@ -1,1 +1,2 @@
+mod PointerTexts
 mod Texts

@@ -6,6 +6,6 @@ mod pointers;
 mod reading;
 mod writing;
 
-pub use pointers::{item_pointer, member_pointer};
+pub use pointers::{item_member_pointer, item_pointer, member_pointer};
 pub use reading::read_value;
 pub use writing::write_value;

@@ -1,5 +1,5 @@
 -- A stop of a first step is one of both.
-use Rattle.std.proofs.Common.{◌≡◌, Result, Err, ap}
+use Rattle.std.proofs.Common.{Result, ap}
 use Rattle.ident_rules.specs.declared.step_errors.StepError.{StepError}
 use Rattle.ident_rules.specs.declared.step_errors.StepError.TheVariants.{Because, NoMemory}
 use Rattle.ident_rules.specs.StepErrors.{IsStopOf}

@@ -6,6 +6,7 @@ use Rattle.serde_json.specs.Data.{Data}
 use Rattle.serde_json.specs.Find.{get, as_array}
 use Rattle.json_forms.specs.Json.{items_list}
 use Rattle.json_forms.specs.Pointer.{◌//◌}
+use Rattle.document_parts.specs.Pointers.{member_pointer, item_pointer}
 use Rattle.error_objects.specs.declared.codes.Code.TheVariants as code
 use Rattle.error_objects.specs.declared.refusals.Refusal.{Refusal}
 use Rattle.error_objects.specs.Refusals.{at_pointer}
@@ -24,6 +25,14 @@ ref_name kind at d = do
   name ← ok_or (named_in kind d) (bad_document at)
   err_if (not (keeps_rule name)) (at_pointer code.NotFound (at // codes "id"))
   Ok name
+
+-- the pointer of the operation at a place of the list
+unfoldable pub operation_pointer : ℕ → List ℕ
+operation_pointer place = item_pointer list_pointer place
+
+-- the pointer of a member of it
+abbrev pub part_pointer : ℕ → List ℕ → List ℕ
+part_pointer place name = member_pointer (operation_pointer place) name
 
 -- the operation at a place
 abbrev pub operation_at : Schema → ℕ × Data → Result Operation Refusal

@@ -1,9 +1,10 @@
-ghost use Rattle.std.specs.Prelude.{◌≡◌};
+ghost use Rattle.std.specs.Prelude.{◌≡◌, codes};
 ghost use Rattle.serde_json.specs.View.{view};
 ghost use Rattle.request_model.specs.OperationLists.{aim_of_target, by_href, href_aim};
 ghost use Rattle.ident_rules.specs.StepErrors.{Gives};
+ghost use Rattle.operation_reader.specs.Parts.{part_pointer};
 
-use crate::refusals::{bad_document, refuse_at};
+use crate::refusals::refuse_part;
 use error_objects::{Code, Refusal};
 use ident_rules::{Key, StepError};
 use json_forms::text_of;
@@ -40,16 +41,16 @@ fn aim_of_target(target: Target) -> Aim
 pub fn href_aim(
     alloc: Global,
     schema: &Schema,
-    at: &str,
+    place: u32,
     value: &Value,
 ) -> Result<Aim, StepError<Refusal>>
-    ensures { Gives result (href_aim schema.now at.now (view value.now)) }
+    ensures { Gives result (href_aim schema.now (part_pointer place (codes "href")) (view value.now)) }
 {
     let Some(path) = text_of(value) else {
-        return Err(bad_document(alloc, at));
+        return Err(refuse_part(alloc, Code::BadDocument, place, "href"));
     };
     match find_target(alloc, schema, path)? {
         Some(target) => Ok(aim_of_target(target)),
-        None => Err(refuse_at(alloc, Code::NotFound, at)),
+        None => Err(refuse_part(alloc, Code::NotFound, place, "href")),
     }
 }

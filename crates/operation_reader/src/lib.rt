@@ -7,6 +7,7 @@ mod aims;
 mod hrefs;
 mod lists;
 mod operations;
+mod places;
 mod refs;
 mod refusals;
 mod words;

@@ -2,15 +2,16 @@ ghost use Rattle.std.specs.Prelude.{◌≡◌, ◌≤◌, [], codes, length, map
 ghost use Rattle.std.specs.List.{enumerate_from};
 ghost use Rattle.serde_json.specs.View.{view};
 ghost use Rattle.task_forms.specs.declared.tasks.TheConstants.{OPERATION_LIMIT};
-ghost use Rattle.request_model.specs.Words.{all_ok};
+ghost use Rattle.request_model.specs.Words.{all_ok, result_map};
+ghost use Rattle.request_model.specs.Documents.{object_at};
 ghost use Rattle.request_model.specs.OperationLists.{absent, operations_of};
 ghost use Rattle.ident_rules.specs.StepErrors.{Gives};
 ghost use Rattle.resource_reader.specs.Reads.{IsReadVec};
 ghost use Rattle.operation_reader.specs.Parts.{array_operations, items_operations, listed_operations, operation_at, without_data, without_included, without_results};
 
-use crate::operations::{check_object, operation_of};
+use crate::operations::operation_of;
+use crate::places::LIST_POINTER;
 use crate::refusals::{bad_document, refuse_at, refuse_in};
-use document_parts::item_pointer;
 use error_objects::{Code, Read, Refusal};
 use ident_rules::{List, StepError};
 use json_forms::member;
@@ -18,9 +19,6 @@ use resource_schema::Schema;
 use serde_json::Value;
 use std::alloc::Global;
 use task_forms::{OPERATION_LIMIT, Operation};
-
-/// The pointer of the array of operations (RFC 6901).
-const LIST_POINTER: &str = "/atomic:operations";
 
 /// No member of this name stands at the top.
 fn check_absent(alloc: Global, name: &str, value: &Value) -> Result<(), StepError<Refusal>>
@@ -41,8 +39,7 @@ fn operation_at(
 ) -> Result<Operation, StepError<Refusal>>
     ensures { Gives result (operation_at schema.now (place, view value.now)) }
 {
-    let at = item_pointer(alloc, LIST_POINTER, place)?;
-    operation_of(alloc, schema, at.as_str(), value)
+    operation_of(alloc, schema, place, value)
 }
 
 /// The operations of an array, each in order.
@@ -151,6 +148,16 @@ fn without_results(
     }
 }
 
+/// The root is an object, whatever is in it.
+fn check_root(alloc: Global, document: &Value) -> Result<(), StepError<Refusal>>
+    ensures { Gives result (result_map (λ _. tt) (object_at [] (view document.now))) }
+{
+    match document {
+        Value::Object(_) => Ok(()),
+        _ => Err(bad_document(alloc, "")),
+    }
+}
+
 /// The operations of a document.
 fn operations_of(
     alloc: Global,
@@ -159,7 +166,7 @@ fn operations_of(
 ) -> Result<List<Operation>, StepError<Refusal>>
     ensures { Gives result (operations_of schema.now (view document.now)) }
 {
-    match check_object(alloc, "", document) {
+    match check_root(alloc, document) {
         Ok(()) => without_results(alloc, schema, document),
         Err(stop) => Err(stop),
     }

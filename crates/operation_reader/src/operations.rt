@@ -1,4 +1,4 @@
-ghost use Rattle.std.specs.Prelude.{◌≡◌, List as Listed, Result, option_map};
+ghost use Rattle.std.specs.Prelude.{◌≡◌, List as Listed, Result, codes, option_map};
 ghost use Rattle.serde_json.specs.View.{view};
 ghost use Rattle.error_objects.specs.declared.refusals.Refusal.{Refusal};
 ghost use Rattle.error_objects.specs.Refusals.{IsRead};
@@ -9,12 +9,13 @@ ghost use Rattle.request_model.specs.Words.{result_map};
 ghost use Rattle.request_model.specs.OperationLists.{operation_by, operation_of, with_data};
 ghost use Rattle.ident_rules.specs.StepErrors.{Gives};
 ghost use Rattle.resource_reader.specs.Reads.{IsReadVec};
+ghost use Rattle.operation_reader.specs.Parts.{operation_pointer, part_pointer};
 
 use crate::acts::act_of;
 use crate::aims::aim_by;
-use crate::refusals::bad_document;
+use crate::places::part_pointer;
+use crate::refusals::bad_operation;
 use crate::words::op_at;
-use document_parts::member_pointer;
 use error_objects::{Read, Refusal};
 use ident_rules::{List, StepError};
 use json_forms::member;
@@ -90,56 +91,69 @@ fn with_data(
     }
 }
 
+/// The operation at that place of the list, with the data that is its member.
+fn with_own_data(
+    alloc: Global,
+    schema: &Schema,
+    place: u32,
+    act: Act,
+    value: &Value,
+) -> Result<Operation, StepError<Refusal>>
+    ensures { Gives result (with_data schema.now (part_pointer place (codes "data")) act (view value.now)) }
+{
+    let at = part_pointer(alloc, place, "data")?;
+    with_data(alloc, schema, at.as_str(), act, value)
+}
+
 /// The operation with its data, which the removal of a resource does not need.
 fn operation_by(
     alloc: Global,
     schema: &Schema,
-    at: &str,
+    place: u32,
     act: Act,
     found: Option<&Value>,
 ) -> Result<Operation, StepError<Refusal>>
-    ensures { Gives result (operation_by schema.now at.now act (option_map (λ v. view v.now) found.entry)) }
+    ensures { Gives result (operation_by schema.now (operation_pointer place) act (option_map (λ v. view v.now) found.entry)) }
 {
     if let Act::Removes(who) = act {
         return Ok(Operation::Remove { who });
     }
     let Some(value) = found else {
-        return Err(bad_document(alloc, at));
+        return Err(bad_operation(alloc, place));
     };
-    let place = member_pointer(alloc, at, "data")?;
-    with_data(alloc, schema, place.as_str(), act, value)
+    with_own_data(alloc, schema, place, act, value)
 }
 
 /// An object, whatever is in it.
-pub fn check_object(alloc: Global, at: &str, value: &Value) -> Result<(), StepError<Refusal>>
-    ensures { Gives result (result_map (λ _. tt) (object_at at.now (view value.now))) }
+fn check_object(alloc: Global, place: u32, value: &Value) -> Result<(), StepError<Refusal>>
+    ensures { Gives result (result_map (λ _. tt) (object_at (operation_pointer place) (view value.now))) }
 {
     match value {
         Value::Object(_) => Ok(()),
-        _ => Err(bad_document(alloc, at)),
+        _ => Err(bad_operation(alloc, place)),
     }
 }
 
-/// One operation: an object, its word, its target, the pair of both, and its data, in this order (Atomic Operations extension,
+/// The operation at that place of the list: an object, its word, its target, the pair of both, and its data, in this order (Atomic Operations extension,
 /// "Operation Objects").
 pub fn operation_of(
     alloc: Global,
     schema: &Schema,
-    at: &str,
+    place: u32,
     value: &Value,
 ) -> Result<Operation, StepError<Refusal>>
-    ensures { Gives result (operation_of schema.now at.now (view value.now)) }
+    ensures { Gives result (operation_of schema.now (operation_pointer place) (view value.now)) }
 {
-    check_object(alloc, at, value)?;
-    let op = op_at(alloc, at, value)?;
+    check_object(alloc, place, value)?;
+    let op = op_at(alloc, place, value)?;
     let aim = aim_by(
         alloc,
         schema,
         op,
-        at,
+        place,
         member(value, "ref"),
         member(value, "href"),
     )?;
-    let act = act_of(alloc, schema, at, value, op, aim)?;
-    operation_by(alloc, schema, at, act, member(value, "data"))
+    let act = act_of(alloc, schema, place, value, op, aim)?;
+    operation_by(alloc, schema, place, act, member(value, "data"))
 }

@@ -1,4 +1,4 @@
-ghost use Rattle.std.specs.Prelude.{◌≡◌, IfOk, is_some, option_map, true};
+ghost use Rattle.std.specs.Prelude.{◌≡◌, IfOk, codes, is_some, option_map, true};
 ghost use Rattle.std.specs.Str.{is_utf8};
 ghost use Rattle.serde_json.specs.View.{view};
 ghost use Rattle.ident_rules.specs.Id.{is_id};
@@ -6,9 +6,9 @@ ghost use Rattle.request_model.specs.Words.{result_map, some_if};
 ghost use Rattle.request_model.specs.Documents.{named_in};
 ghost use Rattle.request_model.specs.OperationLists.{aim_of_ref, optional_text, ref_aim};
 ghost use Rattle.ident_rules.specs.StepErrors.{Gives};
-ghost use Rattle.operation_reader.specs.Parts.{ref_name};
+ghost use Rattle.operation_reader.specs.Parts.{part_pointer, ref_name};
 
-use crate::refusals::{bad_document, refuse_in};
+use crate::refusals::{refuse_in_part, refuse_part};
 use error_objects::{Code, Refusal};
 use ident_rules::{Id, Key, NoMemory, StepError, Text, read_id};
 use json_forms::{member, text_at, text_of};
@@ -35,17 +35,17 @@ fn is_named(value: &Value) -> bool
 /// A text, where there is something.
 fn optional_text<'v>(
     alloc: Global,
-    at: &str,
+    place: u32,
     found: Option<&'v Value>,
 ) -> Result<Option<&'v str>, StepError<Refusal>>
-    ensures { Gives (result_map (λ o. option_map (λ t. t.now) o) result) (optional_text at.now (option_map (λ v. view v.now) found.entry)) }
+    ensures { Gives (result_map (λ o. option_map (λ t. t.now) o) result) (optional_text (part_pointer place (codes "ref")) (option_map (λ v. view v.now) found.entry)) }
 {
     let Some(value) = found else {
         return Ok(None);
     };
     match text_of(value) {
         Some(text) => Ok(Some(text)),
-        None => Err(bad_document(alloc, at)),
+        None => Err(refuse_part(alloc, Code::BadDocument, place, "ref")),
     }
 }
 
@@ -58,16 +58,21 @@ fn lid_text(alloc: Global, lid: &str) -> Result<Text, NoMemory>
 }
 
 /// What `id` or `lid` of a `ref` names.
-fn ref_name(alloc: Global, kind: u32, at: &str, value: &Value) -> Result<Named, StepError<Refusal>>
-    ensures { Gives result (ref_name kind at.now (view value.now)) }
+fn ref_name(
+    alloc: Global,
+    kind: u32,
+    place: u32,
+    value: &Value,
+) -> Result<Named, StepError<Refusal>>
+    ensures { Gives result (ref_name kind (part_pointer place (codes "ref")) (view value.now)) }
 {
     match (text_at(value, "id"), text_at(value, "lid")) {
         (Some(text), None) => match id_of(text) {
             Some(id) => Ok(Named::Id(Key { kind, id })),
-            None => Err(refuse_in(alloc, Code::NotFound, at, "id")),
+            None => Err(refuse_in_part(alloc, Code::NotFound, place, "ref", "id")),
         },
         (None, Some(lid)) => Ok(Named::Lid(kind, lid_text(alloc, lid)?)),
-        _ => Err(bad_document(alloc, at)),
+        _ => Err(refuse_part(alloc, Code::BadDocument, place, "ref")),
     }
 }
 
@@ -75,18 +80,18 @@ fn ref_name(alloc: Global, kind: u32, at: &str, value: &Value) -> Result<Named, 
 fn aim_of_ref(
     alloc: Global,
     schema: &Schema,
-    at: &str,
+    place: u32,
     who: Who,
     name: Option<&str>,
 ) -> Result<Aim, StepError<Refusal>>
-    ensures { Gives result (aim_of_ref schema.now at.now who (option_map (λ t. t.now) name.entry)) }
+    ensures { Gives result (aim_of_ref schema.now (part_pointer place (codes "ref")) who (option_map (λ t. t.now) name.entry)) }
 {
     let Some(name) = name else {
         return Ok(Aim::Resource(who));
     };
     match schema.relationship_of(who.named.kind(), name) {
         Some(rel) => Ok(Aim::Relationship(who, rel)),
-        None => Err(refuse_in(alloc, Code::NotFound, at, "relationship")),
+        None => Err(refuse_in_part(alloc, Code::NotFound, place, "ref", "relationship")),
     }
 }
 
@@ -94,22 +99,25 @@ fn aim_of_ref(
 pub fn ref_aim(
     alloc: Global,
     schema: &Schema,
-    at: &str,
+    place: u32,
     value: &Value,
 ) -> Result<Aim, StepError<Refusal>>
-    ensures { Gives result (ref_aim schema.now at.now (view value.now)) }
+    ensures { Gives result (ref_aim schema.now (part_pointer place (codes "ref")) (view value.now)) }
 {
     let Some(word) = text_at(value, "type") else {
-        return Err(bad_document(alloc, at));
+        return Err(refuse_part(alloc, Code::BadDocument, place, "ref"));
     };
     if !is_named(value) {
-        return Err(bad_document(alloc, at));
+        return Err(refuse_part(alloc, Code::BadDocument, place, "ref"));
     }
-    let name = optional_text(alloc, at, member(value, "relationship"))?;
+    let name = optional_text(alloc, place, member(value, "relationship"))?;
     let Some(kind) = schema.kind_of(word) else {
-        return Err(refuse_in(alloc, Code::NotFound, at, "type"));
+        return Err(refuse_in_part(alloc, Code::NotFound, place, "ref", "type"));
     };
-    let named = ref_name(alloc, kind, at, value)?;
-    let place = Where::Ref;
-    aim_of_ref(alloc, schema, at, Who { named, place }, name)
+    let named = ref_name(alloc, kind, place, value)?;
+    let who = Who {
+        named,
+        place: Where::Ref,
+    };
+    aim_of_ref(alloc, schema, place, who, name)
 }

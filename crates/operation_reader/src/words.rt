@@ -2,8 +2,9 @@ ghost use Rattle.std.specs.Prelude.{◌≡◌};
 ghost use Rattle.serde_json.specs.View.{view};
 ghost use Rattle.request_model.specs.OperationLists.{op_of, op_at};
 ghost use Rattle.ident_rules.specs.StepErrors.{Gives};
+ghost use Rattle.operation_reader.specs.Parts.{operation_pointer};
 
-use crate::refusals::{bad_document, refuse_in};
+use crate::refusals::{bad_operation, refuse_part};
 use error_objects::{Code, Refusal};
 use ident_rules::StepError;
 use json_forms::{member, text_of};
@@ -24,17 +25,17 @@ fn op_of(text: &str) -> Option<Op>
 }
 
 /// The member `op` of an operation (Atomic Operations extension, "Operation Objects").
-pub fn op_at(alloc: Global, at: &str, value: &Value) -> Result<Op, StepError<Refusal>>
-    ensures { Gives result (op_at at.now (view value.now)) }
+pub fn op_at(alloc: Global, place: u32, value: &Value) -> Result<Op, StepError<Refusal>>
+    ensures { Gives result (op_at (operation_pointer place) (view value.now)) }
 {
     let Some(word) = member(value, "op") else {
-        return Err(bad_document(alloc, at));
+        return Err(bad_operation(alloc, place));
     };
     let Some(text) = text_of(word) else {
-        return Err(refuse_in(alloc, Code::BadDocument, at, "op"));
+        return Err(refuse_part(alloc, Code::BadDocument, place, "op"));
     };
     match op_of(text) {
         Some(op) => Ok(op),
-        None => Err(refuse_in(alloc, Code::BadDocument, at, "op")),
+        None => Err(refuse_part(alloc, Code::BadDocument, place, "op")),
     }
 }

@@ -1,14 +1,14 @@
-ghost use Rattle.std.specs.Prelude.{◌≡◌, Some};
+ghost use Rattle.std.specs.Prelude.{◌≡◌, Some, codes};
 ghost use Rattle.serde_json.specs.View.{view};
+ghost use Rattle.document_parts.specs.Pointers.{member_pointer};
 ghost use Rattle.request_model.specs.Documents.{kind_named, resource_kind, is_lid, client_id, local_id, create_of};
 ghost use Rattle.ident_rules.specs.StepErrors.{Gives};
 ghost use Rattle.resource_reader.specs.OwnIds.{client_id_in, local_id_in};
 
 use crate::fields::read_given_links;
 use crate::parts::{id_of, object_at, text_member};
-use crate::refusals::{bad_document, refuse_at, refuse_in};
+use crate::refusals::{refuse_at, refuse_in};
 use crate::values::{all_values, read_given_values};
-use document_parts::member_pointer;
 use error_objects::{Code, Refusal};
 use ident_rules::{Id, StepError, Text};
 use json_forms::{member, text_of};
@@ -59,7 +59,7 @@ pub fn resource_kind(
     }
 }
 
-/// The id that the client gave (JSON:API 1.1, "Client-Generated IDs").
+/// The id that the client gave the resource object that the pointer leads to (JSON:API 1.1, "Client-Generated IDs").
 fn client_id(
     alloc: Global,
     schema: &Schema,
@@ -67,19 +67,19 @@ fn client_id(
     at: &str,
     value: &Value,
 ) -> Result<Option<Id>, StepError<Refusal>>
-    ensures { Gives result (client_id schema.now kind at.now (Some (view value.now))) }
+    ensures { Gives result (client_id schema.now kind (member_pointer at.now (codes "id")) (Some (view value.now))) }
 {
     let Some(text) = text_of(value) else {
-        return Err(bad_document(alloc, at));
+        return Err(refuse_in(alloc, Code::BadDocument, at, "id"));
     };
     if !schema.has_client_ids(kind) {
-        return Err(refuse_at(alloc, Code::ClientIdUnsupported, at));
+        return Err(refuse_in(alloc, Code::ClientIdUnsupported, at, "id"));
     }
     let Some(id) = id_of(text) else {
-        return Err(refuse_at(alloc, Code::BadId, at));
+        return Err(refuse_in(alloc, Code::BadId, at, "id"));
     };
     if id.is_digits() {
-        return Err(refuse_at(alloc, Code::ReservedId, at));
+        return Err(refuse_in(alloc, Code::ReservedId, at, "id"));
     }
     Ok(Some(id))
 }
@@ -91,15 +91,15 @@ fn is_lid(text: &str) -> bool
     !text.is_empty() && text.len() <= LID_LIMIT
 }
 
-/// The local id that the client gave (JSON:API 1.1, "Identification").
+/// The local id that the client gave the resource object that the pointer leads to (JSON:API 1.1, "Identification").
 fn local_id(alloc: Global, at: &str, value: &Value) -> Result<Option<Text>, StepError<Refusal>>
-    ensures { Gives result (local_id at.now (Some (view value.now))) }
+    ensures { Gives result (local_id (member_pointer at.now (codes "lid")) (Some (view value.now))) }
 {
     let Some(text) = text_of(value) else {
-        return Err(bad_document(alloc, at));
+        return Err(refuse_in(alloc, Code::BadDocument, at, "lid"));
     };
     if !is_lid(text) {
-        return Err(bad_document(alloc, at));
+        return Err(refuse_in(alloc, Code::BadDocument, at, "lid"));
     }
     Ok(Some(Text::from_str(alloc, text)?))
 }
@@ -117,8 +117,7 @@ fn client_id_in(
     let Some(given) = member(value, "id") else {
         return Ok(None);
     };
-    let place = member_pointer(alloc, at, "id")?;
-    client_id(alloc, schema, kind, place.as_str(), given)
+    client_id(alloc, schema, kind, at, given)
 }
 
 /// The local id, at its member.
@@ -128,8 +127,7 @@ fn local_id_in(alloc: Global, at: &str, value: &Value) -> Result<Option<Text>, S
     let Some(given) = member(value, "lid") else {
         return Ok(None);
     };
-    let place = member_pointer(alloc, at, "lid")?;
-    local_id(alloc, place.as_str(), given)
+    local_id(alloc, at, given)
 }
 
 /// A new resource, by the rules in their order.
@@ -147,7 +145,7 @@ pub fn create_of(
     let lid = local_id_in(alloc, at, value)?;
     let given = read_given_values(alloc, schema, kind, at, value)?;
     let links = read_given_links(alloc, schema, kind, at, value)?;
-    match all_values(alloc, schema, kind, given.as_slice())? {
+    match all_values(alloc, schema, kind, given)? {
         Some(values) => Ok(Operation::Create {
             kind,
             id,

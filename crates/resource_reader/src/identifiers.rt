@@ -4,9 +4,10 @@ ghost use Rattle.serde_json.specs.View.{view};
 ghost use Rattle.request_model.specs.Documents.{named_in, identifier_from};
 ghost use Rattle.ident_rules.specs.StepErrors.{Gives};
 ghost use Rattle.resource_reader.specs.Names.{named_by_name};
+ghost use Rattle.resource_reader.specs.Spots.{pointer_at};
 
 use crate::parts::id_of;
-use crate::refusals::{bad_document, refuse_in};
+use crate::spots::{Spot, bad_spot, refuse_in_spot};
 use error_objects::{Code, Refusal};
 use ident_rules::{Key, NoMemory, StepError, Text};
 use json_forms::text_at;
@@ -45,30 +46,31 @@ pub fn lid_text(alloc: Global, lid: &str) -> Result<Text, NoMemory>
     Text::from_str(alloc, lid)
 }
 
-/// A resource identifier of a type (JSON:API 1.1, "Resource Identifier Objects").
+/// A resource identifier of a type, at the spot or an item of what stands there (JSON:API 1.1, "Resource Identifier Objects").
 pub fn read_identifier(
     alloc: Global,
     schema: &Schema,
     kind: u32,
-    at: &str,
+    spot: Spot<'_>,
+    index: Option<u32>,
     value: &Value,
 ) -> Result<Named, StepError<Refusal>>
-    ensures { Gives result (identifier_from schema.now kind at.now (view value.now)) }
+    ensures { Gives result (identifier_from schema.now kind (pointer_at spot.entry index) (view value.now)) }
 {
     let Some(word) = text_at(value, "type") else {
-        return Err(bad_document(alloc, at));
+        return Err(bad_spot(alloc, spot, index));
     };
     let Some(name) = name_in(value) else {
-        return Err(bad_document(alloc, at));
+        return Err(bad_spot(alloc, spot, index));
     };
     if word != schema.kind_name(kind) {
-        return Err(refuse_in(alloc, Code::WrongTarget, at, "type"));
+        return Err(refuse_in_spot(alloc, Code::WrongTarget, spot, index, "type"));
     }
     match name {
         NameText::Lid(lid) => Ok(Named::Lid(kind, lid_text(alloc, lid)?)),
         NameText::Id(text) => match id_of(text) {
             Some(id) => Ok(Named::Id(Key { kind, id })),
-            None => Err(refuse_in(alloc, Code::RelatedNotFound, at, "id")),
+            None => Err(refuse_in_spot(alloc, Code::RelatedNotFound, spot, index, "id")),
         },
     }
 }

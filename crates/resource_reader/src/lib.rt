@@ -9,6 +9,7 @@ mod linkages;
 mod parts;
 mod reads;
 mod refusals;
+mod spots;
 mod updates;
 mod values;
 

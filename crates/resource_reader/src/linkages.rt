@@ -5,10 +5,10 @@ ghost use Rattle.request_model.specs.Words.{all_ok};
 ghost use Rattle.request_model.specs.Documents.{one_linkage, many_linkage, indexed, linkage_from};
 ghost use Rattle.ident_rules.specs.StepErrors.{Gives};
 ghost use Rattle.resource_reader.specs.Arrays.{items_linkage};
+ghost use Rattle.resource_reader.specs.Spots.{spot_pointer};
 
 use crate::identifiers::read_identifier;
-use crate::refusals::bad_document;
-use document_parts::item_pointer;
+use crate::spots::{Spot, bad_spot};
 use error_objects::Refusal;
 use ident_rules::{List, StepError};
 use resource_schema::Schema;
@@ -21,16 +21,16 @@ fn read_to_one(
     alloc: Global,
     schema: &Schema,
     kind: u32,
-    at: &str,
+    spot: Spot<'_>,
     value: &Value,
 ) -> Result<List<Member>, StepError<Refusal>>
-    ensures { Gives result (one_linkage schema.now kind at.now (view value.now)) }
+    ensures { Gives result (one_linkage schema.now kind (spot_pointer spot.entry) (view value.now)) }
 {
     let mut members = Vec::new(alloc);
     match value {
         Value::Null => Ok(List::from_vec(members)),
         _ => {
-            let named = read_identifier(alloc, schema, kind, at, value)?;
+            let named = read_identifier(alloc, schema, kind, spot, None, value)?;
             members.push(Member { named, index: None })?;
             Ok(List::from_vec(members))
         }
@@ -42,18 +42,15 @@ fn read_indexed(
     alloc: Global,
     schema: &Schema,
     kind: u32,
-    at: &str,
+    spot: Spot<'_>,
     place: u32,
     value: &Value,
 ) -> Result<Member, StepError<Refusal>>
-    ensures { Gives result (indexed schema.now kind at.now (place, view value.now)) }
+    ensures { Gives result (indexed schema.now kind (spot_pointer spot.entry) (place, view value.now)) }
 {
-    let pointer = item_pointer(alloc, at, place)?;
-    let named = read_identifier(alloc, schema, kind, pointer.as_str(), value)?;
-    Ok(Member {
-        named,
-        index: Some(place),
-    })
+    let index = Some(place);
+    let named = read_identifier(alloc, schema, kind, spot, index, value)?;
+    Ok(Member { named, index })
 }
 
 /// The identifiers of an array, each in order.
@@ -61,15 +58,15 @@ fn read_items(
     alloc: Global,
     schema: &Schema,
     kind: u32,
-    at: &str,
+    spot: Spot<'_>,
     values: &[Value],
 ) -> Result<List<Member>, StepError<Refusal>>
     requires few { length values.now < 2 ^ 32 }
-    ensures { Gives result (all_ok (map (indexed schema.now kind at.now) (enumerate_from 0 (map view values.now)))) }
+    ensures { Gives result (all_ok (map (indexed schema.now kind (spot_pointer spot.entry)) (enumerate_from 0 (map view values.now)))) }
 {
     let mut members = Vec::new(alloc);
     for (place, value) in values.iter().enumerate() {
-        match read_indexed(alloc, schema, kind, at, place as u32, value) {
+        match read_indexed(alloc, schema, kind, spot, place as u32, value) {
             Ok(member) => members.push(member)?,
             Err(stop) => return Err(stop),
         }
@@ -82,15 +79,15 @@ fn read_array(
     alloc: Global,
     schema: &Schema,
     kind: u32,
-    at: &str,
+    spot: Spot<'_>,
     values: &[Value],
 ) -> Result<List<Member>, StepError<Refusal>>
-    ensures { Gives result (items_linkage schema.now kind at.now (map view values.now)) }
+    ensures { Gives result (items_linkage schema.now kind (spot_pointer spot.entry) (map view values.now)) }
 {
     if values.len() > 4_294_967_295 {
-        return Err(bad_document(alloc, at));
+        return Err(bad_spot(alloc, spot, None));
     }
-    read_items(alloc, schema, kind, at, values)
+    read_items(alloc, schema, kind, spot, values)
 }
 
 /// A to-many linkage: an array of identifiers.
@@ -98,14 +95,14 @@ fn read_to_many(
     alloc: Global,
     schema: &Schema,
     kind: u32,
-    at: &str,
+    spot: Spot<'_>,
     value: &Value,
 ) -> Result<List<Member>, StepError<Refusal>>
-    ensures { Gives result (many_linkage schema.now kind at.now (view value.now)) }
+    ensures { Gives result (many_linkage schema.now kind (spot_pointer spot.entry) (view value.now)) }
 {
     match value.as_array() {
-        Some(values) => read_array(alloc, schema, kind, at, values),
-        None => Err(bad_document(alloc, at)),
+        Some(values) => read_array(alloc, schema, kind, spot, values),
+        None => Err(bad_spot(alloc, spot, None)),
     }
 }
 
@@ -115,15 +112,15 @@ pub fn read_linkage(
     schema: &Schema,
     kind: u32,
     rel: u32,
-    at: &str,
+    spot: Spot<'_>,
     value: &Value,
 ) -> Result<List<Member>, StepError<Refusal>>
-    ensures { Gives result (linkage_from schema.now kind rel at.now (view value.now)) }
+    ensures { Gives result (linkage_from schema.now kind rel (spot_pointer spot.entry) (view value.now)) }
 {
     let target = schema.target_of(kind, rel);
     if schema.is_many(kind, rel) {
-        read_to_many(alloc, schema, target, at, value)
+        read_to_many(alloc, schema, target, spot, value)
     } else {
-        read_to_one(alloc, schema, target, at, value)
+        read_to_one(alloc, schema, target, spot, value)
     }
 }

@@ -2,6 +2,7 @@ ghost use Rattle.std.specs.Prelude.{◌≡◌, option_map, Option, Some, None};
 ghost use Rattle.serde_json.specs.View.{view, members_view};
 ghost use Rattle.ident_rules.specs.Id.{is_id};
 ghost use Rattle.request_model.specs.Words.{result_map, some_if};
+ghost use Rattle.document_parts.specs.Pointers.{member_pointer};
 ghost use Rattle.request_model.specs.Documents.{object_at, text_member};
 ghost use Rattle.ident_rules.specs.StepErrors.{Gives};
 
@@ -30,6 +31,21 @@ pub fn object_at<'v>(
     match value {
         Value::Object(members) => Ok(members),
         _ => Err(bad_document(alloc, at)),
+    }
+}
+
+/// The members of the object that is the member of that name.
+pub fn object_in<'v>(
+    alloc: Global,
+    at: &str,
+    name: &str,
+    value: &'v Value,
+) -> Result<&'v Map<String, Value>, StepError<Refusal>>
+    ensures { Gives (result_map (λ m. members_view m.now.entries) result) (object_at (member_pointer at.now name.now) (view value.now)) }
+{
+    match value {
+        Value::Object(members) => Ok(members),
+        _ => Err(refuse_in(alloc, Code::BadDocument, at, name)),
     }
 }
 

@@ -5,6 +5,7 @@ ghost use Rattle.resource_reader.specs.Reads.{IsReadVec};
 
 use crate::creates::create_of;
 use crate::linkages::read_linkage;
+use crate::spots::Spot;
 use crate::updates::update_of;
 use error_objects::Read;
 use ident_rules::StepError;
@@ -68,7 +69,7 @@ pub fn read_members(
 ) -> Read<Vec<Member>>
     ensures { IsReadVec result (documents.linkage_from schema.now kind rel at.now (view value.now)) }
 {
-    match read_linkage(alloc, schema, kind, rel, at, value) {
+    match read_linkage(alloc, schema, kind, rel, Spot::At(at), value) {
         Ok(members) => Read::Good(members.into_vec()),
         Err(StepError::Because(refusal)) => Read::Refused(refusal),
         Err(StepError::NoMemory) => Read::NoMemory,

@@ -9,7 +9,7 @@ use ident_rules::{NoMemory, StepError, Text};
 use std::alloc::Global;
 
 /// A refusal of what a pointer leads to.
-fn refuse(code: Code, pointer: Text) -> StepError<Refusal>
+pub fn refuse(code: Code, pointer: Text) -> StepError<Refusal>
     ensures { IsStop result (at_pointer code pointer) }
 {
     StepError::Because(Refusal {
@@ -34,6 +34,22 @@ pub fn refuse_in(alloc: Global, code: Code, at: &str, name: &str) -> StepError<R
 {
     match member_pointer(alloc, at, name) {
         Ok(pointer) => refuse(code, pointer),
+        Err(NoMemory) => StepError::NoMemory,
+    }
+}
+
+/// A refusal of the member of that name in the member `group`.
+pub fn refuse_below(
+    alloc: Global,
+    code: Code,
+    at: &str,
+    group: &str,
+    name: &str,
+) -> StepError<Refusal>
+    ensures { IsStop result (at_pointer code (member_pointer (member_pointer at.now group.now) name.now)) }
+{
+    match member_pointer(alloc, at, group) {
+        Ok(pointer) => refuse_in(alloc, code, pointer.as_str(), name),
         Err(NoMemory) => StepError::NoMemory,
     }
 }

@@ -3,9 +3,9 @@ use Rattle.request_model.specs.Words.{all_ok}
 use Rattle.request_model.specs.ReadingLaws.{onto}
 use Rattle.request_model.specs.Documents.{given_link}
 use Rattle.document_parts.specs.Walks.{members_in, seen}
-use Rattle.resource_reader.specs.Fields.{fields_among}
+use Rattle.resource_reader.specs.Fields.{fields_among, relationships_pointer}
 use Rattle.resource_reader.proofs.fields.read_relationships.Given as goal
 
 abbrev pub invariant-loop-name : goal.invariant-loop-name
 invariant-loop-name l =
-    all_ok (map (given_link l.schema l.kind l.group) (fields_among (members_in l.fn.members))) ≡ onto l.links.items (all_ok (map (given_link l.schema l.kind l.group) (fields_among (seen l.name-iterator))))
+    all_ok (map (given_link l.schema l.kind (relationships_pointer l.at)) (fields_among (members_in l.fn.members))) ≡ onto l.links.items (all_ok (map (given_link l.schema l.kind (relationships_pointer l.at)) (fields_among (seen l.name-iterator))))
