@@ -1,3 +1,4 @@
+mod Asked
 mod Drafts
 mod Lists
 mod Listed

@@ -36,7 +36,7 @@ use Rattle.view_reads.specs.Recording.{Recording}
 use Rattle.trial_steps.specs.Runners.{TellsRead}
 use Rattle.trial_steps.specs.StepLaws.{row_in_left, row_in_right}
 use Rattle.compound_document.specs.Documents.{one_data, page_data}
-use Rattle.compound_document.specs.Fetches.{reach_of, reply_of, reply_with}
+use Rattle.compound_document.specs.Fetches.{alone_reply, reach_of, reply_of, reply_with}
 use Rattle.compound_document.specs.Gathering.{gathered, key_list, keys_in, reach_beside}
 use Rattle.compound_document.specs.Linked.{is_many_link}
 use Rattle.compound_document.proofs.Runs.{told_so, told_then}
@@ -108,6 +108,19 @@ module _ {V : Type 0} (schema : Schema) (cells : V → Cells) (query : Query) wh
         (λ now k valid is e. beside_in now (target.Resource key) (row ∷ []) k (ap (λ o. option_map_or (λ x. x ∷ []) o []) (sym is))
         (λ here. subst (λ (j : Key). is_row_in (j ∷ []) k ≡ true) (at_key now row valid is) here) e)
         first second
+
+    alone_is : (now : World) → query.include ≡ None → (found : Option Row) → alone_reply schema query found ≡ document_reply content.Plain (option_map (λ x. row_document schema now query (Some x)) found)
+    alone_is now none None = refl
+    alone_is now none (Some row) = ap (λ include. ok_reply content.Plain (one_data schema query (Some row) (gathered schema now (row.key ∷ []) include))) (sym none) ∙ ap (ok_reply content.Plain) (one_is schema now query (Some row))
+
+    pub alone_told : (a b : Recording V) (r : Reply) → query.include ≡ None
+        → TellsRead schema cells (λ now. is_row_in (key ∷ [])) (λ now. r ≡ alone_reply schema query (row_at now key)) a b
+        → TellsRead schema cells (reach_of schema query (target.Resource key)) (λ now. r ≡ reply_of schema query (target.Resource key) now) a b
+    alone_told a b r none told =
+        told_so schema cells (λ now. is_row_in (key ∷ [])) (reach_of schema query (target.Resource key)) (λ now. r ≡ alone_reply schema query (row_at now key)) (λ now. r ≡ reply_of schema query (target.Resource key) now) a b
+        (λ now valid is. is ∙ alone_is now none (row_at now key))
+        (λ now k valid is e. or_left _ _ e)
+        told
 
     -- ---- a relationship
 

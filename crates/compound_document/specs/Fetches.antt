@@ -1,9 +1,13 @@
 -- Fetches by target and query, and their replies.
-use Rattle.std.specs.Prelude.{◌≡◌, ℕ, Bool, List, None, Option, Result, IfOk}
+use Rattle.std.specs.Prelude.{◌≡◌, ℕ, Bool, List, None, Some, Option, Result, IfOk}
 use Rattle.http_messages.specs.declared.messages.Allow.TheVariants as allow
 use Rattle.http_messages.specs.declared.messages.Content.{Content}
+use Rattle.http_messages.specs.declared.messages.Content.TheVariants as content
 use Rattle.http_messages.specs.declared.messages.Reply.{Reply}
 use Rattle.serde_json.specs.Data.{Data}
+use Rattle.error_objects.specs.declared.codes.Code.TheVariants as code
+use Rattle.error_objects.specs.ErrorReply.{error_reply}
+use Rattle.error_objects.specs.Refusals.{refusal}
 use Rattle.ident_rules.specs.declared.key.Key.{Key}
 use Rattle.resource_schema.specs.declared.schema.Schema.{Schema}
 use Rattle.resource_schema.specs.declared.targets.Target.{Target}
@@ -16,6 +20,7 @@ use Rattle.store_model.specs.Answer.{fetch_reply, ok_reply}
 use Rattle.store_model.specs.Reach.{reach_fetch}
 use Rattle.view_reads.specs.Recording.{Recording}
 use Rattle.trial_steps.specs.Runners.{TellsRead}
+use Rattle.compound_document.specs.Documents.{one_data}
 use Rattle.compound_document.specs.Gathering.{gathered, reach_beside}
 
 -- what a fetch of a target looks at
@@ -38,3 +43,8 @@ TellsBeside schema cells query keys c document before after result =
 -- the reply with a body
 abbrev pub reply_with : Content → List ℕ → Reply
 reply_with c body = record { status = 200; content = c; location = None; allow = allow.Nothing; body = body }
+
+-- the reply with a resource and nothing beside it, or that it is not there
+abbrev pub alone_reply : Schema → Query → Option Row → Reply
+alone_reply schema query None = error_reply (refusal code.NotFound)
+alone_reply schema query (Some row) = ok_reply content.Plain (one_data schema query (Some row) None)

@@ -17,6 +17,11 @@ abbrev pub key_list : Option Row → List Key
 key_list None = []
 key_list (Some row) = row.key ∷ []
 
+-- the keys, where paths were asked for
+abbrev pub asked_keys : Option (List Path) → List Key → List Key
+asked_keys None keys = []
+asked_keys (Some paths) keys = keys
+
 -- what is included beside rows with these keys, where paths were asked for
 abbrev pub gathered : Schema → World → List Key → Option (List Path) → Option (List Row)
 gathered schema w keys include = option_map (included schema w keys) include

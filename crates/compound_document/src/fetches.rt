@@ -10,7 +10,8 @@ ghost use Rattle.compound_document.specs.Documents.{one_data, page_data};
 ghost use Rattle.compound_document.specs.Fetches.{TellsBeside, TellsFetch};
 ghost use Rattle.compound_document.specs.Gathering.{key_list, keys_in};
 
-use crate::gathering::{key_list, keys_of, rows_beside};
+use crate::alone::alone_reply;
+use crate::gathering::{asked_key_list, asked_keys, rows_beside};
 use crate::linked::{is_many_link, link_at, linked_page, linked_row};
 use crate::paths::{collection_path, related_path};
 use crate::replies::{not_found, ok_reply, related_content};
@@ -40,7 +41,7 @@ fn page_reply<V: View>(
 ) -> Result<Reply, NoMemory>
     ensures { TellsBeside schema.now V.cells query.now (keys_in page.now.rows) content (page_data schema.now query.now path.now page.now) recorder.old recorder.new result }
 {
-    let keys = keys_of(alloc, page.rows.as_slice())?;
+    let keys = asked_keys(alloc, page.rows.as_slice(), &query.include)?;
     let beside = rows_beside(
         alloc,
         schema,
@@ -65,7 +66,7 @@ fn one_reply<V: View>(
 ) -> Result<Reply, NoMemory>
     ensures { TellsBeside schema.now V.cells query.now (key_list row.now) content (one_data schema.now query.now row.now) recorder.old recorder.new result }
 {
-    let keys = key_list(alloc, row)?;
+    let keys = asked_key_list(alloc, row, &query.include)?;
     let beside = rows_beside(
         alloc,
         schema,
@@ -108,8 +109,8 @@ fn collection_reply<V: View>(
     )
 }
 
-/// The reply to a fetch of a resource.
-fn resource_reply<V: View>(
+/// The reply with a resource, and the rows that are included beside it.
+fn gathered_reply<V: View>(
     alloc: Global,
     schema: &Schema,
     key: &Key,
@@ -125,6 +126,23 @@ fn resource_reply<V: View>(
     let found = Some(row);
     let content = Content::Plain;
     one_reply(alloc, schema, query, content, &found, recorder, work)
+}
+
+/// The reply to a fetch of a resource.
+fn resource_reply<V: View>(
+    alloc: Global,
+    schema: &Schema,
+    key: &Key,
+    query: &Query,
+    recorder: &mut Recorder<V>,
+    work: &mut Work,
+) -> Result<Reply, NoMemory>
+    ensures { TellsFetch schema.now V.cells query.now (target.Resource key.now) recorder.old recorder.new result }
+{
+    match &query.include {
+        Some(_) => gathered_reply(alloc, schema, key, query, recorder, work),
+        None => alone_reply(alloc, schema, key, query, recorder, work),
+    }
 }
 
 /// The reply to a fetch of a relationship.

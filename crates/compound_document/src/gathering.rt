@@ -1,7 +1,7 @@
 //! The rows beside primary ones.
 ghost use Rattle.std.specs.Prelude.{◌≡◌, IfOk};
 ghost use Rattle.trial_steps.specs.Runners.{TellsRead};
-ghost use Rattle.compound_document.specs.Gathering.{IsGathered, key_list, keys_in, reach_beside};
+ghost use Rattle.compound_document.specs.Gathering.{IsGathered, asked_keys, key_list, keys_in, reach_beside};
 
 use ident_rules::{Key, List, NoMemory};
 use include_walk::walk;
@@ -13,10 +13,10 @@ use view_reads::{Recorder, View};
 use world_cells::Row;
 
 /// The keys of some rows.
-pub fn keys_of(alloc: Global, rows: &[Row]) -> Result<Vec<Key>, NoMemory>
+fn keys_of(alloc: Global, rows: &[Row]) -> Result<Vec<Key>, NoMemory>
     ensures { IfOk result (λ keys. keys.items ≡ keys_in rows.now) }
 {
-    let mut keys = Vec::new(alloc);
+    let mut keys = Vec::with_capacity(alloc, rows.len())?;
     for row in rows {
         keys.push(row.key)?;
     }
@@ -24,7 +24,7 @@ pub fn keys_of(alloc: Global, rows: &[Row]) -> Result<Vec<Key>, NoMemory>
 }
 
 /// The key of a row, if there is one.
-pub fn key_list(alloc: Global, row: &Option<Row>) -> Result<Vec<Key>, NoMemory>
+fn key_list(alloc: Global, row: &Option<Row>) -> Result<Vec<Key>, NoMemory>
     ensures { IfOk result (λ keys. keys.items ≡ key_list row.now) }
 {
     let mut keys = Vec::new(alloc);
@@ -32,6 +32,34 @@ pub fn key_list(alloc: Global, row: &Option<Row>) -> Result<Vec<Key>, NoMemory>
         keys.push(row.key)?;
     }
     Ok(keys)
+}
+
+/// The keys of some rows, where paths were asked for: nothing else needs them.
+pub fn asked_keys(
+    alloc: Global,
+    rows: &[Row],
+    include: &Option<List<Path>>,
+) -> Result<Vec<Key>, NoMemory>
+    ensures { IfOk result (λ keys. keys.items ≡ asked_keys include.now (keys_in rows.now)) }
+{
+    match include {
+        Some(_) => keys_of(alloc, rows),
+        None => Ok(Vec::new(alloc)),
+    }
+}
+
+/// The key of a row, if there is one, where paths were asked for.
+pub fn asked_key_list(
+    alloc: Global,
+    row: &Option<Row>,
+    include: &Option<List<Path>>,
+) -> Result<Vec<Key>, NoMemory>
+    ensures { IfOk result (λ keys. keys.items ≡ asked_keys include.now (key_list row.now)) }
+{
+    match include {
+        Some(_) => key_list(alloc, row),
+        None => Ok(Vec::new(alloc)),
+    }
 }
 
 /// The rows that asked paths lead to from primary ones, where paths were asked for (JSON:API 1.1, "Inclusion of Related

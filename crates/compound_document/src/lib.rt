@@ -2,6 +2,7 @@
 //! "Fetching Data" and "Compound Documents"; Cursor Pagination profile). The rows are read first, and then written as a text.
 #![tactic(auto)]
 
+mod alone;
 mod fetches;
 mod gathering;
 mod linked;

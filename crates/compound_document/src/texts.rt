@@ -1,5 +1,5 @@
 //! The texts of documents.
-ghost use Rattle.std.specs.Prelude.{◌≡◌, ◌++◌, IfOk, codes, option_copied, unwrap_or};
+ghost use Rattle.std.specs.Prelude.{◌≡◌, ◌++◌, IfOk, None, Some, codes, option_copied, unwrap_or};
 ghost use Rattle.json_texts.specs.Drafts.{Adds};
 ghost use Rattle.serde_json.specs.Written.{compact_text};
 ghost use Rattle.error_objects.specs.ErrorReply.{only};
@@ -11,6 +11,7 @@ ghost use Rattle.compound_document.specs.Documents.{beside_text, links_data, met
 use crate::links::page_links;
 use document_texts::{
     add_linkage_document, add_null_document, add_page_links, add_resource, add_resources,
+    add_row_document,
 };
 use ident_rules::{Bytes, List, NoMemory, Text};
 use json_texts::TextDraft;
@@ -158,6 +159,27 @@ pub fn one_text(
 {
     let mut draft = TextDraft::with_room(alloc, room_of(1, beside));
     add_one(&mut draft, schema, query, row, beside);
+    draft.finish()
+}
+
+/// Goes on with the document of a row with nothing beside it.
+fn add_alone(draft: &mut TextDraft, schema: &Schema, query: &Query, row: &Row)
+    ensures { Adds draft.old draft.new (compact_text (one_data schema.now query.now (Some row.now) None)) }
+{
+    add_row_document(draft, schema, row, query.fields.as_slice());
+}
+
+/// The document of a row with nothing beside it.
+pub fn alone_text(
+    alloc: Global,
+    schema: &Schema,
+    query: &Query,
+    row: &Row,
+) -> Result<Bytes, NoMemory>
+    ensures { IfOk result (λ b. b ≡ compact_text (one_data schema.now query.now (Some row.now) None)) }
+{
+    let mut draft = TextDraft::with_room(alloc, ROOM);
+    add_alone(&mut draft, schema, query, row);
     draft.finish()
 }
 
