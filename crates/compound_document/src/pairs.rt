@@ -19,7 +19,7 @@ fn is_cursor(name: &str) -> bool
 fn is_greater(name: &str, pair: &(Text, Text)) -> bool
     ensures { result ≡ is_gt (slice_cmp nat_cmp name.now pair.now.0) }
 {
-    name.as_bytes().cmp(pair.0.as_str().as_bytes()).is_gt()
+    name.cmp(pair.0.as_str()).is_gt()
 }
 
 /// Where a pair of this name stands: before the first whose name is not less.

@@ -36,7 +36,7 @@ fn value_order(one: &AttrValue, other: &AttrValue) -> Ordering
         },
         AttrValue::Text(left) => match other {
             AttrValue::Null | AttrValue::Int(_) => Ordering::Greater,
-            AttrValue::Text(right) => left.as_str().as_bytes().cmp(right.as_str().as_bytes()),
+            AttrValue::Text(right) => left.as_str().cmp(right.as_str()),
             AttrValue::Bool(_) => Ordering::Less,
         },
         AttrValue::Bool(left) => match other {

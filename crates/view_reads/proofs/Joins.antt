@@ -1,6 +1,6 @@
 -- What a part and the one that goes on where it ended cover together.
 use Rattle.std.proofs.Common.{◌≡◌, inl, inr, ℕ, ◌+◌, ◌-◌, List, [], ◌∷◌, ◌++◌, length, refl, sym, ap, subst, ◌∙◌, Bool, true, false, Option, Some, None, zero, suc, length-append, arith}
-use Rattle.std.specs.Prelude.{cond, IsTrue, not, ◌&&◌, ◌||◌, ◌==◌, slice_get, ⊤}
+use Rattle.std.specs.Prelude.{cond, IsTrue, not, ◌&&◌, ◌||◌, ◌==◌, slice_get, slice_set as set, slice_index_or, ⊤}
 use Rattle.std.specs.Bool.{beq}
 use Rattle.std.specs.Option.{option_map_or, option_to_list, MatchOption}
 use Rattle.std.specs.List.{list_any}
@@ -215,72 +215,73 @@ last_is xs x =
 abbrev by_test : Bool → Part → Part → Bool × Part
 by_test b x y = cond b (true, x) (false, y)
 
-goes_false : (b : Bool) (x y : Part) → (by_test b x y).0 ≡ false → by_test b x y ≡ (false, y)
-goes_false true x y e = cc e
-goes_false false x y e = refl
+test_is : (b : Bool) (x y : Part) → (by_test b x y).0 ≡ b
+test_is true x y = refl
+test_is false x y = refl
 
-goes_true : (b : Bool) (x y : Part) → (by_test b x y).0 ≡ true → (b ≡ true) × ((by_test b x y).1 ≡ x)
-goes_true true x y e = (refl, refl)
-goes_true false x y e = cc e
+-- whether a part goes on where the last one ended, if there is one
+abbrev pub goes_on_end : Option Part → Part → Bool
+goes_on_end last part = option_map_or (λ l. goes_on l part.from_top part.span) last false
 
-alone_is : (last : Option Part) (part : Part) → (joined last part).0 ≡ false → joined last part ≡ (false, part)
-alone_is None part e = refl
-alone_is (Some last) part e = goes_false (goes_on last part.from_top part.span) (widened last part) part e
+joins_is : (last : Option Part) (part : Part) → (joined last part).0 ≡ goes_on_end last part
+joins_is None part = refl
+joins_is (Some last) part = test_is (goes_on last part.from_top part.span) (widened last part) part
 
 -- a part that goes on nowhere
-pub adds_alone : (before : List Part) (part : Part) → (joined (last_part before) part).0 ≡ false → AddsPart before part (before ++ (joined (last_part before) part).1 ∷ [])
-adds_alone before part apart = subst (λ (x : Part). AddsPart before part (before ++ x ∷ [])) (sym (ap (λ r. r.1) (alone_is (last_part before) part apart))) (record {
+pub adds_alone : (before : List Part) (part : Part) → goes_on_end (last_part before) part ≡ false → AddsPart before part (before ++ part ∷ [])
+adds_alone before part apart = record {
   covers = λ k. any_more (λ p. in_part p k) before part;
-  count = length-append before (part ∷ []) ∙ ap (λ b. length before + cond b 0 1) (sym apart);
-})
+  count = length-append before (part ∷ []) ∙ ap (λ b. length before + cond b 0 1) (sym (joins_is (last_part before) part ∙ apart));
+}
 
--- a part that goes on where the last one ended, which is taken out
-widens : (rest : List Part) (last part : Part) (o : Option Part) → last_part (rest ++ last ∷ []) ≡ o → o ≡ Some last → IsWhole part → (joined o part).0 ≡ true
-    → AddsPart (rest ++ last ∷ []) part (rest ++ (joined o part).1 ∷ [])
-widens rest last part None is some whole goes = cc goes
-widens rest last part (Some x) is some whole goes =
-    let same : x ≡ last = some_is x last some in
-    let test = goes_true (goes_on x part.from_top part.span) (widened x part) part goes in
-    record {
-      covers = λ k. ap (λ y. list_any (λ p. in_part p k) (rest ++ y ∷ [])) (test.1 ∙ ap (λ y. widened y part) same)
-          ∙ any_widened rest last part (sym (ap (λ y. goes_on y part.from_top part.span) same) ∙ test.0) whole k;
-      count = counts (joined (Some x) part).1 (joined (last_part (rest ++ last ∷ [])) part).0 (ap (λ o. (joined o part).0) is ∙ goes);
-    }
+-- a part that goes on where the last one ended
+widens : (rest : List Part) (last part : Part) → goes_on last part.from_top part.span ≡ true → IsWhole part → AddsPart (rest ++ last ∷ []) part (rest ++ widened last part ∷ [])
+widens rest last part goes whole = record {
+  covers = λ k. any_widened rest last part goes whole k;
+  count = counts (joined (last_part (rest ++ last ∷ [])) part).0 (joins_is (last_part (rest ++ last ∷ [])) part ∙ ap (λ o. goes_on_end o part) (last_is rest last) ∙ goes);
+}
   where
-    counts : (y : Part) (b : Bool) → b ≡ true → length (rest ++ y ∷ []) ≡ length (rest ++ last ∷ []) + cond b 0 1
-    counts y true e = let longer = length-append rest (y ∷ []) in let as_long = length-append rest (last ∷ []) in omega (arith, longer, as_long)
-    counts y false e = cc e
+    counts : (b : Bool) → b ≡ true → length (rest ++ widened last part ∷ []) ≡ length (rest ++ last ∷ []) + cond b 0 1
+    counts true e = let longer = length-append rest (widened last part ∷ []) in let as_long = length-append rest (last ∷ []) in omega (arith, longer, as_long)
+    counts false e = cc e
 
-empty : (xs : List Part) → length xs ≡ 0 → last_part xs ≡ None
-empty [] e = refl
-empty (x ∷ xs) e = absurd (omega arith)
+-- ---- in its place
 
-pub adds_joined : (before rest : List Part) (part : Part) (popped : Option Part) → before ≡ rest ++ option_to_list popped → MatchOption popped (length before ≡ 0) (λ p. ⊤) → IsWhole part
-    → (joined (last_part before) part).0 ≡ true → AddsPart before part (rest ++ (joined (last_part before) part).1 ∷ [])
-adds_joined before rest part None is none whole goes = cc (sym goes ∙ ap (λ o. (joined o part).0) (empty before none))
-adds_joined before rest part (Some last) is some whole goes =
-    subst (λ (b : List Part). (joined (last_part b) part).0 ≡ true → AddsPart b part (rest ++ (joined (last_part b) part).1 ∷ [])) (sym is)
-    (widens rest last part (last_part (rest ++ last ∷ [])) refl (last_is rest last) whole) goes
+record Ends (xs : List Part) : Type 0 where
+  rest : List Part
+  last : Part
+  is : xs ≡ rest ++ last ∷ []
 
--- ---- as the code goes
+ends : (x : Part) (xs : List Part) → Ends (x ∷ xs)
+ends x [] = record { rest = []; last = x; is = refl }
+ends x (y ∷ ys) = let e = ends y ys in record { rest = x ∷ e.rest; last = e.last; is = ap (λ ps. x ∷ ps) e.is }
 
-abbrev IsJoined : List Part → Part → Bool × Part → Type 0
-IsJoined before part r = r ≡ joined (last_part before) part
+set_last : (rest : List Part) (last y : Part) (n : ℕ) → n ≡ length rest → set (rest ++ last ∷ []) n y ≡ rest ++ y ∷ []
+set_last [] last y zero e = refl
+set_last [] last y (suc n) e = absurd (omega arith)
+set_last (x ∷ xs) last y zero e = absurd (omega arith)
+set_last (x ∷ xs) last y (suc n) e = ap (λ ps. x ∷ ps) (set_last xs last y n (omega arith))
 
-pub is_joined : (before kept slice : List Part) (part : Part) (last : Option Part) (r : Bool × Part) → kept ≡ before → slice ≡ kept → last ≡ last_part slice → r ≡ joined last part → IsJoined before part r
-is_joined before kept slice part last r same whole is made = made ∙ ap (λ o. joined o part) (is ∙ ap last_part (whole ∙ same))
+get_last : (rest : List Part) (last d : Part) (n : ℕ) → n ≡ length rest → slice_index_or (rest ++ last ∷ []) n d ≡ last
+get_last [] last d zero e = refl
+get_last [] last d (suc n) e = absurd (omega arith)
+get_last (x ∷ xs) last d zero e = absurd (omega arith)
+get_last (x ∷ xs) last d (suc n) e = get_last xs last d n (omega arith)
 
-pub added_alone : (before kept after : List Part) (part : Part) (r : Bool × Part) → IsJoined before part r → kept ≡ before → after ≡ kept ++ r.1 ∷ [] → r.0 ≡ false → AddsPart before part after
-added_alone before kept after part r is same end apart =
-    subst (λ (ps : List Part). AddsPart before part ps) (sym (end ∙ ap (λ ps. ps ++ r.1 ∷ []) same ∙ ap (λ q. before ++ q.1 ∷ []) is))
-    (adds_alone before part (sym (ap (λ q. q.0) is) ∙ apart))
+abbrev IsWidened : List Part → Part → Type 0
+IsWidened before part = (x y : Part) (n : ℕ) → n ≡ length before → goes_on_end (last_part before) part ≡ true → x ≡ slice_index_or before (n - 1) x → y ≡ widened x part → IsWhole part → AddsPart before part (set before (n - 1) y)
 
-pub added_joined : (before kept rest after : List Part) (part : Part) (popped : Option Part) (n m : ℕ) (Q : Part → Type 0) (r : Bool × Part) → IsJoined before part r → kept ≡ before → n ≡ length before
-    → kept ≡ rest ++ option_to_list popped → MatchOption popped ((n ≡ 0) × (m ≡ 0)) Q → IsWhole part → after ≡ rest ++ r.1 ∷ [] → r.0 ≡ true → AddsPart before part after
-added_joined before kept rest after part popped n m Q r is same count split cases whole end goes =
-    subst (λ (ps : List Part). AddsPart before part ps) (sym (end ∙ ap (λ q. rest ++ q.1 ∷ []) is))
-    (adds_joined before rest part popped (sym same ∙ split) (none popped cases) whole (sym (ap (λ q. q.0) is) ∙ goes))
-  where
-    none : (o : Option Part) → MatchOption o ((n ≡ 0) × (m ≡ 0)) Q → MatchOption o (length before ≡ 0) (λ p. ⊤)
-    none None h = sym count ∙ h.0
-    none (Some p) h = tt
+widens_end : (rest : List Part) (last part : Part) → IsWidened (rest ++ last ∷ []) part
+widens_end rest last part x y n len goes at is whole =
+    let longer = length-append rest (last ∷ []) in
+    let place : n - 1 ≡ length rest = omega (arith, longer, len) in
+    let same : x ≡ last = at ∙ get_last rest last x (n - 1) place in
+    let now : set (rest ++ last ∷ []) (n - 1) y ≡ rest ++ widened last part ∷ [] = set_last rest last y (n - 1) place ∙ ap (λ z. rest ++ z ∷ []) (is ∙ ap (λ z. widened z part) same) in
+    subst (λ (ps : List Part). AddsPart (rest ++ last ∷ []) part ps) (sym now) (widens rest last part (sym (ap (λ o. goes_on_end o part) (last_is rest last)) ∙ goes) whole)
+
+-- the last part is widened in its place
+pub widens_last : (before : List Part) (part : Part) → IsWidened before part
+widens_last [] part x y n len goes at is whole = cc goes
+widens_last (b ∷ bs) part x y n len goes at is whole =
+    let e = ends b bs in
+    subst (λ (ps : List Part). IsWidened ps part) (sym e.is) (widens_end e.rest e.last part) x y n len goes at is whole

@@ -1,10 +1,12 @@
 //! The parts of spans that were looked through. A look that goes on where the last part ended widens that one.
-ghost use Rattle.std.specs.Prelude.{◌≡◌, OnOk, OnErr};
-ghost use Rattle.std.specs.Option.{option_copied};
-ghost use Rattle.view_reads.specs.Joining.{open_row, start_of, spanning, goes_on, widened, joined, IsWhole, AddsPart};
+ghost use Rattle.std.specs.Prelude.{◌≡◌, false, OnOk, OnErr};
+ghost use Rattle.std.specs.Option.{option_map_or};
+ghost use Rattle.world_cells.specs.declared.spans.Span.TheVariants as span;
+ghost use Rattle.view_reads.specs.Joining.{open_row, start_of, spanning, goes_on, widened, last_part, IsWhole, AddsPart};
 
 use crate::spans::in_span;
 use ident_rules::{Key, NoMemory};
+use std::alloc::Global;
 use world_cells::{CellKey, Edge, Part, Span};
 
 /// The key of a row at which an edge is open.
@@ -92,38 +94,80 @@ fn goes_on(last: &Part, from_top: bool, span: &Span) -> bool
         && in_span(&spanning(from_top, &last.span, span), found)
 }
 
-/// A part, and the one that goes on where it ended, as one part.
-fn widened(last: &Part, next: Part) -> Part
-    ensures { result ≡ widened last.now next }
+/// Widens a span of rows to where a search of the next one ends.
+fn widen_rows(whole: &mut Span, from_top: bool, next_kind: u32, next_low: &Edge, next_high: &Edge)
+    ensures { whole.new ≡ spanning from_top whole.old (span.Rows next_kind next_low.now next_high.now) }
 {
-    Part {
-        span: spanning(next.from_top, &last.span, &next.span),
-        found: next.found,
-        from_top: next.from_top,
+    match whole {
+        Span::Rows { kind, low, high } => {
+            *kind = next_kind;
+            if from_top {
+                *low = *next_low;
+            } else {
+                *high = *next_high;
+            }
+        }
+        Span::Backs { .. } => {
+            *whole = Span::Rows {
+                kind: next_kind,
+                low: *next_low,
+                high: *next_high,
+            };
+        }
     }
 }
 
-/// A part, widened by the last one where it goes on there; and whether it does.
-fn joined(last: Option<&Part>, part: Part) -> (bool, Part)
-    ensures { result ≡ joined (option_copied last.entry) part }
+/// Widens a span to where a search of the next one ends.
+fn widen_span(whole: &mut Span, from_top: bool, next: &Span)
+    ensures { whole.new ≡ spanning from_top whole.old next.now }
 {
-    match last {
-        Some(last) if goes_on(last, part.from_top, &part.span) => (true, widened(last, part)),
-        _ => (false, part),
+    match next {
+        Span::Rows { kind, low, high } => widen_rows(whole, from_top, *kind, low, high),
+        Span::Backs { .. } => *whole = spanning(from_top, whole, next),
     }
 }
 
-/// Adds a part. Its one error is want of memory, after which nothing has changed.
-pub(crate) fn add_part(parts: &mut Vec<Part>, part: Part) -> Result<(), NoMemory>
-    requires { IsWhole part }
-    ensures ok { OnOk result (AddsPart parts.old.items part parts.new.items) }
+/// Widens a part by one that goes on where it ended.
+fn widen(last: &mut Part, from_top: bool, span: &Span, found: Option<CellKey>)
+    ensures { last.new ≡ widened last.old (record { span = span.now; found = found; from_top = from_top }) }
+{
+    widen_span(&mut last.span, from_top, span);
+    last.found = found;
+    last.from_top = from_top;
+}
+
+/// Whether a look into a span goes on where the last part ended, if there is one.
+fn goes_on_last(parts: &[Part], from_top: bool, span: &Span) -> bool
+    ensures { result ≡ option_map_or (λ last. goes_on last from_top span.now) (last_part parts.now) false }
+{
+    match parts.last() {
+        Some(last) => goes_on(last, from_top, span),
+        None => false,
+    }
+}
+
+/// Adds a part of a span: the last one is widened in its place where this one goes on there. Its one error is want of memory,
+/// after which nothing has changed.
+pub(crate) fn add_part(
+    alloc: Global,
+    parts: &mut Vec<Part>,
+    from_top: bool,
+    span: &Span,
+    found: Option<CellKey>,
+) -> Result<(), NoMemory>
+    requires { IsWhole (record { span = span.now; found = found; from_top = from_top }) }
+    ensures ok { OnOk result (AddsPart parts.old.items (record { span = span.now; found = found; from_top = from_top }) parts.new.items) }
     ensures err { OnErr result (parts.new.items ≡ parts.old.items) }
 {
-    parts.reserve(1)?;
-    let (goes_on, part) = joined(parts.as_slice().last(), part);
-    if goes_on {
-        let _ = parts.pop();
+    if goes_on_last(parts, from_top, span) {
+        let last = parts.len() - 1;
+        widen(&mut parts[last], from_top, span, found);
+        return Ok(());
     }
-    parts.push_reserved(part);
+    parts.push(Part {
+        span: span.copy(alloc)?,
+        found,
+        from_top,
+    })?;
     Ok(())
 }

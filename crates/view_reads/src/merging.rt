@@ -11,7 +11,7 @@ ghost use Rattle.view_reads.specs.Bounds.{IsBacks};
 ghost use Rattle.view_reads.specs.Merging.{IsFirstUnwritten, is_met_before, unwritten, unless_written};
 
 use crate::View;
-use crate::spans::{bound_backs, bound_key, is_met, narrowed};
+use crate::spans::{bound_backs, bound_key, is_met, narrowed, same_span};
 use crate::writes::Writes;
 use outer_ends::Work;
 use world_cells::{Cell, CellKey, Span};
@@ -155,8 +155,8 @@ impl<V: View> Overlaid<V> {
     }
 
     /// The first cell of a span.
-    pub(crate) fn first_in(&self, span: Span, work: &mut Work) -> Option<(&CellKey, &Cell)>
-        ensures value { IsFirstIn (overlay (V.cells self.now.view) self.now.writes) span (option_map pair_now result) }
+    pub(crate) fn first_in(&self, span: &Span, work: &mut Work) -> Option<(&CellKey, &Cell)>
+        ensures value { IsFirstIn (overlay (V.cells self.now.view) self.now.writes) span.now (option_map pair_now result) }
         ensures work { work.new.done ≤ work.old.done + length self.now.writes + 1 }
         ensures rises { work.old.done ≤ work.new.done }
     {
@@ -164,28 +164,32 @@ impl<V: View> Overlaid<V> {
     }
 
     /// The cell of a span that a search meets first.
-    fn met(&self, from_top: bool, span: Span, work: &mut Work) -> Option<(&CellKey, &Cell)>
-        requires { CanNarrow from_top span }
-        ensures value { IsMet from_top (overlay (V.cells self.now.view) self.now.writes) span (option_map pair_now result) }
+    fn met(&self, from_top: bool, span: &Span, work: &mut Work) -> Option<(&CellKey, &Cell)>
+        requires { CanNarrow from_top span.now }
+        ensures value { IsMet from_top (overlay (V.cells self.now.view) self.now.writes) span.now (option_map pair_now result) }
         ensures work { work.new.done ≤ work.old.done + length self.now.writes + 1 }
         ensures rises { work.old.done ≤ work.new.done }
     {
-        let put = self.writes.met_put(from_top, &span);
-        match first_unwritten(from_top, &self.view, &self.writes, span, &put, work) {
+        if self.writes.is_empty() {
+            return first_of_view(from_top, &self.view, span, work);
+        }
+        let put = self.writes.met_put(from_top, span);
+        let rest = same_span(span);
+        match first_unwritten(from_top, &self.view, &self.writes, rest, &put, work) {
             Some(found) => Some(found),
             None => put,
         }
     }
 
     /// The last cell of a span.
-    pub(crate) fn last_in(&self, span: Span, work: &mut Work) -> Option<(&CellKey, &Cell)>
-        ensures value { IsLastIn (overlay (V.cells self.now.view) self.now.writes) span (option_map pair_now result) }
-        ensures work { CanNarrow true span → work.new.done ≤ work.old.done + length self.now.writes + 1 }
+    pub(crate) fn last_in(&self, span: &Span, work: &mut Work) -> Option<(&CellKey, &Cell)>
+        ensures value { IsLastIn (overlay (V.cells self.now.view) self.now.writes) span.now (option_map pair_now result) }
+        ensures work { CanNarrow true span.now → work.new.done ≤ work.old.done + length self.now.writes + 1 }
         ensures rises { work.old.done ≤ work.new.done }
     {
-        match &span {
+        match span {
             Span::Rows { .. } => self.met(true, span, work),
-            Span::Backs { .. } => self.last_back(span, work),
+            Span::Backs { .. } => self.last_back(same_span(span), work),
         }
     }
 

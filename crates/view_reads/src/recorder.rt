@@ -84,15 +84,9 @@ impl<V: View> Recorder<V> {
         ensures rises { work.old.done ≤ work.new.done }
     {
         let alloc = self.alloc;
-        let whole = span.copy(alloc)?;
-        let rest = span.copy(alloc)?;
-        let found = self.cells.first_in(rest, work);
-        let part = Part {
-            span: whole,
-            found: copied_key(alloc, &found)?,
-            from_top: false,
-        };
-        add_part(&mut self.parts, part)?;
+        let found = self.cells.first_in(span, work);
+        let key = copied_key(alloc, &found)?;
+        add_part(alloc, &mut self.parts, false, span, key)?;
         Ok(found)
     }
 
@@ -112,15 +106,9 @@ impl<V: View> Recorder<V> {
         ensures rises { work.old.done ≤ work.new.done }
     {
         let alloc = self.alloc;
-        let whole = span.copy(alloc)?;
-        let rest = span.copy(alloc)?;
-        let found = self.cells.last_in(rest, work);
-        let part = Part {
-            span: whole,
-            found: copied_key(alloc, &found)?,
-            from_top: true,
-        };
-        add_part(&mut self.parts, part)?;
+        let found = self.cells.last_in(span, work);
+        let key = copied_key(alloc, &found)?;
+        add_part(alloc, &mut self.parts, true, span, key)?;
         Ok(found)
     }
 

@@ -3,7 +3,8 @@ ghost use Rattle.std.specs.Prelude.{◌≡◌, ℕ, ◌<◌, length, slice_index
 ghost use Rattle.world_cells.specs.Reads.{is_above, is_below, link_cmp, in_span};
 ghost use Rattle.view_reads.specs.Bounds.{IsBoundedLink, IsBoundedKey, IsBoundedBacks, IsBacks};
 ghost use Rattle.view_reads.specs.Narrowing.{is_behind, is_met, narrowed};
-ghost use Rattle.view_reads.specs.Sides.{between_edges, side, is_passed};
+ghost use Rattle.std.specs.Ordering.{is_lt, is_gt};
+ghost use Rattle.view_reads.specs.Sides.{side, is_passed};
 
 use ident_rules::{Id, Key};
 use std::cmp::Ordering;
@@ -32,18 +33,21 @@ fn is_below(edge: &Edge, id: &Id) -> bool
 }
 
 /// The order of links: by row, and then by relationship.
-fn link_cmp(left: &(Key, u32), right: &(Key, u32)) -> Ordering
-    ensures { result ≡ link_cmp left.now right.now }
+fn link_cmp(left: &(Key, u32), from: &Key, rel: u32) -> Ordering
+    ensures { result ≡ link_cmp left.now (from.now, rel) }
 {
-    left.0.cmp(&right.0).then(left.1.cmp(&right.1))
+    match left.0.cmp(from) {
+        Ordering::Equal => left.1.cmp(&rel),
+        order => order,
+    }
 }
 
 /// Whether a link stands behind another, if there is one.
-fn is_behind(after: &Option<(Key, u32)>, link: &(Key, u32)) -> bool
-    ensures { result ≡ is_behind after.now link.now }
+fn is_behind(after: &Option<(Key, u32)>, from: &Key, rel: u32) -> bool
+    ensures { result ≡ is_behind after.now (from.now, rel) }
 {
     match after {
-        Some(first) => link_cmp(first, link) == Ordering::Less,
+        Some(first) => link_cmp(first, from, rel) == Ordering::Less,
         None => true,
     }
 }
@@ -63,35 +67,22 @@ pub fn in_span(span: &Span, key: &CellKey) -> bool
                 from,
                 rel,
             },
-        ) => *to == *target && is_behind(after, &(*from, *rel)),
+        ) => *to == *target && is_behind(after, from, *rel),
         _ => false,
     }
 }
 
-/// Before, in or behind, from whether a key is past the low edge, and before the high one.
-fn between_edges(past: bool, early: bool) -> Ordering
-    ensures { result ≡ between_edges past early }
-{
-    if !past {
-        Ordering::Less
-    } else if early {
-        Ordering::Equal
-    } else {
-        Ordering::Greater
-    }
-}
-
-/// On which side of a span a key stands: before it, in it or behind it.
-fn side(span: &Span, key: &CellKey) -> Ordering
-    ensures { result ≡ side span.now key.now }
+/// Whether a key stands before a span.
+fn is_before(span: &Span, key: &CellKey) -> bool
+    ensures { result ≡ is_lt (side span.now key.now) }
 {
     match (span, key) {
-        (Span::Rows { kind, low, high }, CellKey::Row(row)) => {
-            let within = between_edges(is_above(low, &row.id), is_below(high, &row.id));
-            row.kind.cmp(kind).then(within)
-        }
-        (Span::Rows { .. }, _) => Ordering::Greater,
-        (Span::Backs { .. }, CellKey::Row(_)) => Ordering::Less,
+        (Span::Rows { kind, low, .. }, CellKey::Row(row)) => match row.kind.cmp(kind) {
+            Ordering::Equal => !is_above(low, &row.id),
+            order => order == Ordering::Less,
+        },
+        (Span::Rows { .. }, _) => false,
+        (Span::Backs { .. }, CellKey::Row(_)) => true,
         (
             Span::Backs { to, after },
             CellKey::Back {
@@ -99,11 +90,29 @@ fn side(span: &Span, key: &CellKey) -> Ordering
                 from,
                 rel,
             },
-        ) => {
-            let within = between_edges(is_behind(after, &(*from, *rel)), true);
-            target.cmp(to).then(within)
+        ) => match target.cmp(to) {
+            Ordering::Equal => !is_behind(after, from, *rel),
+            order => order == Ordering::Less,
+        },
+        (Span::Backs { .. }, CellKey::Counter(_)) => false,
+    }
+}
+
+/// Whether a key stands behind a span.
+fn is_past(span: &Span, key: &CellKey) -> bool
+    ensures { result ≡ is_gt (side span.now key.now) }
+{
+    match (span, key) {
+        (Span::Rows { kind, low, high }, CellKey::Row(row)) => match row.kind.cmp(kind) {
+            Ordering::Equal => is_above(low, &row.id) && !is_below(high, &row.id),
+            order => order == Ordering::Greater,
+        },
+        (Span::Rows { .. }, _) => true,
+        (Span::Backs { .. }, CellKey::Row(_)) => false,
+        (Span::Backs { to, .. }, CellKey::Back { to: target, .. }) => {
+            target.cmp(to) == Ordering::Greater
         }
-        (Span::Backs { .. }, CellKey::Counter(_)) => Ordering::Greater,
+        (Span::Backs { .. }, CellKey::Counter(_)) => true,
     }
 }
 
@@ -112,9 +121,9 @@ pub fn is_passed(whole: bool, span: &Span, key: &CellKey) -> bool
     ensures { result ≡ is_passed whole span.now key.now }
 {
     if whole {
-        side(span, key) != Ordering::Greater
+        !is_past(span, key)
     } else {
-        side(span, key) == Ordering::Less
+        is_before(span, key)
     }
 }
 
@@ -126,6 +135,23 @@ pub(crate) fn is_met(from_top: bool, left: &CellKey, right: &CellKey) -> bool
         right.cmp(left) == Ordering::Less
     } else {
         left.cmp(right) == Ordering::Less
+    }
+}
+
+/// An equal span.
+pub(crate) fn same_span(span: &Span) -> Span
+    ensures { result ≡ span.now }
+{
+    match span {
+        Span::Rows { kind, low, high } => Span::Rows {
+            kind: *kind,
+            low: *low,
+            high: *high,
+        },
+        Span::Backs { to, after } => Span::Backs {
+            to: *to,
+            after: *after,
+        },
     }
 }
 

@@ -1,4 +1,4 @@
-ghost use Rattle.std.specs.Prelude.{◌≡◌, ◌<◌, ◌≤◌, ◌+◌, vec_len, vec_capacity, true, false, [], IfOk, OnOk, OnErr, MatchResult, map, Some, None};
+ghost use Rattle.std.specs.Prelude.{◌≡◌, ◌<◌, ◌≤◌, ◌+◌, ◌↔◌, IsTrue, vec_len, vec_capacity, true, false, [], IfOk, OnOk, OnErr, MatchResult, map, Some, None};
 ghost use Rattle.std.specs.Option.{option_map};
 ghost use Rattle.std.specs.FinMap.Entries.{find};
 ghost use Rattle.world_cells.specs.CellOrder.{cell_key_cmp};
@@ -42,6 +42,13 @@ impl Writes {
         Writes {
             items: Vec::new(alloc),
         }
+    }
+
+    /// Whether there is none.
+    pub(crate) fn is_empty(&self) -> bool
+        ensures { IsTrue result ↔ (self.now ≡ []) }
+    {
+        self.items.is_empty()
     }
 
     /// What is written at a key, if anything.

@@ -1,15 +1,17 @@
-use Rattle.std.proofs.Common.{◌∙◌, ap, length, [], ◌∷◌, ◌++◌}
-use Rattle.view_reads.proofs.Joins.{is_joined, added_alone, added_joined}
-use Rattle.view_reads.proofs.joining.add_part.Goals.{then-goes_on, else-goes_on}
+use Rattle.std.proofs.Common.{◌∙◌, sym, ap, subst, List, ◌++◌, ◌∷◌, []}
+use Rattle.world_cells.specs.declared.sets.Part.{Part}
+use Rattle.view_reads.specs.Joining.{AddsPart, last_part}
+use Rattle.view_reads.proofs.Joins.{adds_alone, goes_on_end, widens_last}
 use Rattle.view_reads.proofs.joining.add_part.Goals as goal
+
+pub returns-then-goes_on_last-clause-ok : goal.returns-then-goes_on_last-clause-ok
+returns-then-goes_on_last-clause-ok c =
+    let part : Part = record { span = c.args.span.now; found = c.args.found; from_top = c.args.from_top } in
+    widens_last c.args.parts.now.items part c.index_mut.result.now c.widen.new.last c.len-last.result
+    (c.len-last.ensures ∙ c.args.parts.now.ok.0) (sym (c.goes_on_last.ensures ∙ ap (λ ps. goes_on_end (last_part ps) part) c.deref.ensures.value) ∙ c.if-goes_on_last.true) c.index_mut.ensures.value c.widen.ensures c.requires
 
 pub returns-clause-ok : goal.returns-clause-ok
 returns-clause-ok c =
-    let made = is_joined c.args.parts.now.items c.reserve.new.self.items c.as_slice.result.now c.args.part _ c.joined-goes_on.result c.reserve.ensures.items c.as_slice.ensures.value c.last.ensures.value c.joined-goes_on.ensures in
-    elim c.if-goes_on.branch [
-      | then-goes_on w ↦ added_joined c.args.parts.now.items c.reserve.new.self.items w.pop.new.self.items _ c.args.part w.pop.result _ _ _ c.joined-goes_on.result made c.reserve.ensures.items
-          (c.reserve.new.self.ok.0 ∙ ap length c.reserve.ensures.items) w.pop.ensures.items w.pop.ensures.cases c.requires
-          (c.push_reserved.ensures.items ∙ ap (λ ps. ps.items ++ c.joined-goes_on.result.1 ∷ []) w.parts-is) w.if-goes_on.true
-      | else-goes_on w ↦ added_alone c.args.parts.now.items c.reserve.new.self.items _ c.args.part c.joined-goes_on.result made c.reserve.ensures.items
-          (c.push_reserved.ensures.items ∙ ap (λ ps. ps.items ++ c.joined-goes_on.result.1 ∷ []) w.parts-is) w.if-goes_on.false
-    ]
+    let part : Part = record { span = c.args.span.now; found = c.args.found; from_top = c.args.from_top } in
+    subst (λ (ps : List Part). AddsPart c.args.parts.now.items part ps) (sym (c.in_ok-push.ensures.items ∙ ap (λ s. c.args.parts.now.items ++ record { span = s; found = c.args.found; from_top = c.args.from_top } ∷ []) c.in_ok-copy.ensures))
+    (adds_alone c.args.parts.now.items part (sym (c.goes_on_last.ensures ∙ ap (λ ps. goes_on_end (last_part ps) part) c.deref.ensures.value) ∙ c.if-goes_on_last.false))
