@@ -8,6 +8,7 @@
 
 mod changes;
 mod crossing;
+mod few;
 mod nodes;
 mod pages;
 mod shared;

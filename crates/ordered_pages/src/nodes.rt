@@ -1,12 +1,14 @@
 //! Nodes of a tree of cells: a cell with its key, a leaf of these, a branch of leaves.
 ghost use Rattle.std.specs.Prelude.{◌≡◌, ◌≤◌, ◌++◌, ◌∷◌, [], ℕ, Some, None, length, map, IfOk};
 ghost use Rattle.std.specs.Arc.{arc_value};
+ghost use Rattle.ordered_pages.specs.Few.{nodes_of};
 ghost use Rattle.ordered_pages.specs.Changed.{IsHalved, IsChangedIn, put_entries};
 ghost use Rattle.std.specs.Option.{option_copied};
 ghost use Rattle.std.specs.List.{flat_map};
 ghost use Rattle.ordered_pages.specs.Entries.{Entry, passes, first_entry, first_left, last_passed, AreParted, AreRising, Each, IsBegun};
 
 use crate::changes::{Change, Held};
+use crate::few::Few;
 use crate::shared::Shared;
 use crate::stops::Stop;
 use ident_rules::NoMemory;
@@ -19,6 +21,7 @@ use world_cells::{Cell, CellKey};
 pub(crate) trait Node: Drop {
     ghost use Rattle.std.specs.Prelude.{◌≡◌, Some, List, [], ◌∷◌, map, IfOk};
     ghost use Rattle.std.specs.Arc.{arc_value};
+    ghost use Rattle.ordered_pages.specs.Few.{nodes_of};
     ghost use Rattle.ordered_pages.specs.Changed.{IsChanged};
     ghost use Rattle.std.specs.Option.{option_copied};
     ghost use Rattle.ordered_pages.specs.Entries.{Entry, passes, first_entry, first_left, last_passed, AreParted, AreRising, HasFirst};
@@ -55,58 +58,50 @@ pub(crate) trait Node: Drop {
 
     /// This node with a change: none, one or two nodes that share what stays. A node that nobody else has is changed in its
     /// place.
-    fn changed(this: Arc<Self>, alloc: Global, change: &Change) -> Result<Vec<Arc<Self>>, NoMemory>
+    fn changed(this: Arc<Self>, alloc: Global, change: &Change) -> Result<Few<Self>, NoMemory>
     where
         Self: Sized,
         requires sound { is_sound (arc_value this) }
         requires sorted { AreRising (entries (arc_value this)) }
-        ensures { IfOk result (λ nodes. IsChanged entries is_sound replaces change.now (arc_value this) (map arc_value nodes.items)) };
+        ensures { IfOk result (λ nodes. IsChanged entries is_sound replaces change.now (arc_value this) (nodes_of nodes)) };
 
     ghost has_first: { (x : Self) → is_sound x → HasFirst (entries x) };
 }
 
-/// Adds the cell that is put, if one is.
-fn push_put(nodes: &mut Vec<Arc<Held>>, change: &Change) -> Result<(), NoMemory>
-    ensures { IfOk result (λ _. map arc_value nodes.new.items ≡ map arc_value nodes.old.items ++ put_entries change.now) }
-{
-    if let Change::Put(held) = change {
-        nodes.push(Arc::try_clone(held)?)?;
-    }
-    Ok(())
-}
-
 /// What is put, if anything is.
-fn put_alone(alloc: Global, change: &Change) -> Result<Vec<Arc<Held>>, NoMemory>
-    ensures { IfOk result (λ nodes. map arc_value nodes.items ≡ put_entries change.now) }
+fn put_alone(change: &Change) -> Result<Few<Held>, NoMemory>
+    ensures { IfOk result (λ nodes. nodes_of nodes ≡ put_entries change.now) }
 {
-    let mut nodes = Vec::with_capacity(alloc, 2)?;
-    push_put(&mut nodes, change)?;
-    Ok(nodes)
+    match change {
+        Change::Put(put) => Ok(Few::One(Arc::try_clone(put)?)),
+        Change::Remove(_) => Ok(Few::Gone),
+    }
 }
 
 /// A cell, and behind it what is put.
-fn put_behind(alloc: Global, held: Arc<Held>, change: &Change) -> Result<Vec<Arc<Held>>, NoMemory>
-    ensures { IfOk result (λ nodes. map arc_value nodes.items ≡ arc_value held ∷ put_entries change.now) }
+fn put_behind(held: Arc<Held>, change: &Change) -> Result<Few<Held>, NoMemory>
+    ensures { IfOk result (λ nodes. nodes_of nodes ≡ arc_value held ∷ put_entries change.now) }
 {
-    let mut nodes = Vec::with_capacity(alloc, 2)?;
-    nodes.push(held)?;
-    push_put(&mut nodes, change)?;
-    Ok(nodes)
+    match change {
+        Change::Put(put) => Ok(Few::Two(held, Arc::try_clone(put)?)),
+        Change::Remove(_) => Ok(Few::One(held)),
+    }
 }
 
 /// What is put, and behind it a cell.
-fn put_before(alloc: Global, held: Arc<Held>, change: &Change) -> Result<Vec<Arc<Held>>, NoMemory>
-    ensures { IfOk result (λ nodes. map arc_value nodes.items ≡ put_entries change.now ++ arc_value held ∷ []) }
+fn put_before(held: Arc<Held>, change: &Change) -> Result<Few<Held>, NoMemory>
+    ensures { IfOk result (λ nodes. nodes_of nodes ≡ put_entries change.now ++ arc_value held ∷ []) }
 {
-    let mut nodes = Vec::with_capacity(alloc, 2)?;
-    push_put(&mut nodes, change)?;
-    nodes.push(held)?;
-    Ok(nodes)
+    match change {
+        Change::Put(put) => Ok(Few::Two(Arc::try_clone(put)?, held)),
+        Change::Remove(_) => Ok(Few::One(held)),
+    }
 }
 
 impl Node for (CellKey, Cell) {
     ghost use Rattle.std.specs.Prelude.{◌≡◌, [], ◌∷◌, ⊤, refl, map, IfOk};
     ghost use Rattle.std.specs.Arc.{arc_value};
+    ghost use Rattle.ordered_pages.specs.Few.{nodes_of};
     ghost use Rattle.ordered_pages.specs.Changed.{IsChanged};
     ghost use Rattle.ordered_pages.specs.Entries.{AreRising};
 
@@ -140,14 +135,14 @@ impl Node for (CellKey, Cell) {
         Ok(Arc::try_clone(held)?)
     }
 
-    fn changed(this: Arc<Held>, alloc: Global, change: &Change) -> Result<Vec<Arc<Held>>, NoMemory>
+    fn changed(this: Arc<Held>, _alloc: Global, change: &Change) -> Result<Few<Held>, NoMemory>
         requires sorted { AreRising (arc_value this ∷ []) }
-        ensures { IfOk result (λ nodes. IsChanged (λ x. x ∷ []) (λ x. ⊤) (λ x xs. ⊤) change.now (arc_value this) (map arc_value nodes.items)) }
+        ensures { IfOk result (λ nodes. IsChanged (λ x. x ∷ []) (λ x. ⊤) (λ x xs. ⊤) change.now (arc_value this) (nodes_of nodes)) }
     {
         match this.0.cmp(change.key()) {
-            Ordering::Less => put_behind(alloc, this, change),
-            Ordering::Equal => put_alone(alloc, change),
-            Ordering::Greater => put_before(alloc, this, change),
+            Ordering::Less => put_behind(this, change),
+            Ordering::Equal => put_alone(change),
+            Ordering::Greater => put_before(this, change),
         }
     }
 
@@ -178,25 +173,21 @@ fn begun<T: Node>(items: &Shared<T>, stop: &Stop) -> usize
 const SPLIT: usize = 32;
 
 /// Items as none, one or two nodes, each with half of them where they are too many for one.
-fn halves<T: Node>(alloc: Global, items: Shared<T>) -> Result<Vec<Arc<Shared<T>>>, NoMemory>
+fn halves<T: Node>(alloc: Global, items: Shared<T>) -> Result<Few<Shared<T>>, NoMemory>
     requires sound { Each T.is_sound items }
     requires few { length items ≤ 129 }
-    ensures { IfOk result (λ nodes. IsHalved T.is_sound items (map arc_value nodes.items)) }
+    ensures { IfOk result (λ nodes. IsHalved T.is_sound items (nodes_of nodes)) }
 {
-    let mut nodes = Vec::with_capacity(alloc, 2)?;
     let n = items.len();
     if n == 0 {
-        return Ok(nodes);
+        return Ok(Few::Gone);
     }
     if n <= SPLIT {
-        nodes.push(Arc::new(alloc, items)?)?;
-        return Ok(nodes);
+        return Ok(Few::One(Arc::new(alloc, items)?));
     }
     let front = Shared::front_of(alloc, &items, n / 2)?;
     let back = Shared::rest_of(alloc, &items, n / 2)?;
-    nodes.push(Arc::new(alloc, front)?)?;
-    nodes.push(Arc::new(alloc, back)?)?;
-    Ok(nodes)
+    Ok(Few::Two(Arc::new(alloc, front)?, Arc::new(alloc, back)?))
 }
 
 impl<T: Node> Shared<T> {
@@ -257,6 +248,7 @@ impl<T: Node> Node for Shared<T> {
     ghost use Rattle.std.specs.Prelude.{map, IfOk};
     ghost use Rattle.std.specs.List.{flat_map};
     ghost use Rattle.std.specs.Arc.{arc_value};
+    ghost use Rattle.ordered_pages.specs.Few.{nodes_of};
     ghost use Rattle.ordered_pages.specs.Changed.{IsNodeChanged};
     ghost use Rattle.ordered_pages.specs.Entries.{IsNode, AreRising};
     ghost use Rattle.ordered_pages.specs.EntryLaws.{node_has_first};
@@ -290,10 +282,10 @@ impl<T: Node> Node for Shared<T> {
         this: Arc<Shared<T>>,
         alloc: Global,
         change: &Change,
-    ) -> Result<Vec<Arc<Shared<T>>>, NoMemory>
+    ) -> Result<Few<Shared<T>>, NoMemory>
         requires sound { IsNode T.is_sound (arc_value this) }
         requires sorted { AreRising (flat_map T.entries (arc_value this)) }
-        ensures { IfOk result (λ nodes. IsNodeChanged T.entries T.is_sound T.replaces change.now (arc_value this) (map arc_value nodes.items)) }
+        ensures { IfOk result (λ nodes. IsNodeChanged T.entries T.is_sound T.replaces change.now (arc_value this) (nodes_of nodes)) }
     {
         let items = Shared::owned(alloc, this)?;
         let items = items.changed_in(alloc, change)?;

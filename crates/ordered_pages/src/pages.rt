@@ -1,5 +1,5 @@
 //! Pages: a map of cells in boughs of branches of leaves.
-ghost use Rattle.std.specs.Prelude.{◌≡◌, ◌≤◌, ◌+◌, ◌*◌, ◌++◌, [], ◌↔◌, IsTrue, IfOk, Some, map, length};
+ghost use Rattle.std.specs.Prelude.{◌≡◌, ◌≤◌, ◌+◌, ◌-◌, ◌*◌, ◌^◌, ◌++◌, [], ◌↔◌, IsTrue, IfOk, Some, map, length, min};
 ghost use Rattle.world_cells.specs.Reads.{AreRisingKeys};
 ghost use Rattle.view_reads.specs.Counts.{counted};
 ghost use Rattle.view_reads.specs.Merging.{IsOverlaid};
@@ -284,7 +284,10 @@ fn with_writes(
     requires rising { AreRisingKeys (map (λ w. w.key) writes.now) }
     ensures ok { IfOk result (λ r. IsPrepared (leaves_of root) writes.now r.0 r.1.items) }
     ensures work { work.new.done ≤ work.old.done + length writes.now }
+    ensures counted { IfOk result (λ r. work.new.done ≡ min (work.old.done + length writes.now) (2 ^ 64 - 1)) }
 {
+    // Reads the count, so that its range is known.
+    let _before = work.done;
     let mut new = root;
     let mut keys = Vec::new(alloc);
     for write in writes {
@@ -303,6 +306,7 @@ impl Pages {
         ensures ascend { IfOk result (λ r. AreRisingKeys r.1.keys) }
         ensures shared { IfOk result (λ r. IsShared (2 * length writes.now.cells) self.now r.0) }
         ensures work { work.new.done ≤ work.old.done + length writes.now.cells }
+        ensures counted { IfOk result (λ r. work.new.done ≡ min (work.old.done + length writes.now.cells) (2 ^ 64 - 1)) }
     {
         let start = boughs_of(self.alloc, &self.root)?;
         let (new, keys) = with_writes(self.alloc, start, writes.cells.as_slice(), work)?;

@@ -1,7 +1,9 @@
 //! Items in order, each behind a shared pointer.
 ghost use Rattle.std.specs.Prelude.{◌≡◌, ◌<◌, ◌≤◌, ◌+◌, ◌++◌, ◌∷◌, [], length, get_or, map, take, drop, IfOk};
 ghost use Rattle.std.specs.Arc.{arc_value};
+ghost use Rattle.ordered_pages.specs.Few.{nodes_of};
 
+use crate::few::Few;
 use ident_rules::NoMemory;
 use std::alloc::Global;
 use std::marker::Model;
@@ -138,14 +140,17 @@ impl<T: Drop> Shared<T> {
     }
 
     /// Puts items in at a place.
-    pub(crate) fn put_in(&mut self, at: usize, items: Vec<Arc<T>>) -> Result<(), NoMemory>
+    pub(crate) fn put_in(&mut self, at: usize, items: Few<T>) -> Result<(), NoMemory>
         requires { at ≤ length self.old }
-        ensures { IfOk result (λ _. self.new ≡ take at self.old ++ (map arc_value items.items ++ drop at self.old)) }
+        ensures { IfOk result (λ _. self.new ≡ take at self.old ++ (nodes_of items ++ drop at self.old)) }
     {
-        let mut items = items;
-        while let Some(item) = items.pop() {
-            put_item(&mut self.items, at, item)?;
+        match items {
+            Few::Gone => Ok(()),
+            Few::One(item) => put_item(&mut self.items, at, item),
+            Few::Two(front, back) => {
+                put_item(&mut self.items, at, back)?;
+                put_item(&mut self.items, at, front)
+            }
         }
-        Ok(())
     }
 }

@@ -7,7 +7,6 @@ use Rattle.world_cells.specs.declared.keys.CellKey.{CellKey}
 use Rattle.world_cells.specs.declared.sets.Written.{Written}
 use Rattle.world_cells.specs.CellOrder.{cell_key_cmp}
 use Rattle.world_cells.specs.Reads.{entries_of}
-use Rattle.view_reads.specs.Counts.{counted_once}
 use Rattle.ordered_pages.specs.Tree.{leaves_of}
 use Rattle.ordered_pages.proofs.Prepared.{step, fresh, above_taken}
 use Rattle.ordered_pages.proofs.pages.with_writes.Goals as goal
@@ -23,5 +22,5 @@ loop-write-preserved c = record {
       (above_taken c.args.writes.now c.loop-write.write-index c.write-item.result c.requires.rising (omega arith)))
       (take_more c.args.writes.now c.loop-write.write-index c.write-item.result (omega arith) ∙ ap (λ (w : Written). take c.loop-write.write-index c.args.writes.now ++ w ∷ []) (sym c.write-item.is))
       c.loop-write.invariant.prepared c.in_ok-new.ensures.ok;
-  steps = (let once = counted_once c.loop-write.work.done in let now = c.written.ensures.work in let steps = c.loop-write.invariant.steps in omega arith);
+  steps = (let now = c.written.ensures.work in let steps = c.loop-write.invariant.steps in omega arith);
 }
