@@ -1,4 +1,4 @@
-ghost use Rattle.std.specs.Prelude.{◌≡◌, ◌<◌, ◌≤◌, ◌+◌, ◌↔◌, IsTrue, vec_len, vec_capacity, true, false, [], IfOk, OnOk, OnErr, MatchResult, map, Some, None};
+ghost use Rattle.std.specs.Prelude.{◌≡◌, ◌<◌, ◌≤◌, ◌+◌, ◌↔◌, IsTrue, vec_len, vec_capacity, length, get_or, true, false, [], IfOk, OnOk, OnErr, MatchResult, map, Some, None};
 ghost use Rattle.std.specs.Option.{option_map};
 ghost use Rattle.std.specs.FinMap.Entries.{find};
 ghost use Rattle.world_cells.specs.CellOrder.{cell_key_cmp};
@@ -16,14 +16,64 @@ use std::cmp::Ordering;
 use std::marker::Model;
 use world_cells::{Cell, CellKey, Span, Written};
 
+/// A write behind a pointer of its own, so that others are moved past it cheaply. Contracts see the write.
+#[derive(Drop)]
+struct Kept {
+    written: Box<Written>,
+}
+
+impl Model for Kept {
+    ghost use Rattle.world_cells.specs.declared.sets.Written.{Written};
+
+    ghost Value = { Written };
+
+    ghost view = { λ k. k.written.value };
+}
+
+impl Kept {
+    /// The write. Its one error is want of memory.
+    fn new(alloc: Global, written: Written) -> Result<Kept, NoMemory>
+        ensures { IfOk result (λ k. k ≡ written) }
+    {
+        Ok(Kept {
+            written: Box::new(alloc, written)?,
+        })
+    }
+
+    /// The write behind the pointer.
+    fn written(&self) -> &Written
+        ensures { result.now ≡ self.now }
+    {
+        &self.written
+    }
+
+    /// Another cell at the same key.
+    fn set_cell(&mut self, cell: Option<Cell>)
+        ensures { self.new ≡ record self.old { cell = cell } }
+    {
+        self.written.cell = cell;
+    }
+
+    /// The write itself. Takes no memory.
+    fn into_written(self) -> Written
+        ensures { result ≡ self }
+    {
+        let Kept { written } = self;
+        Box::into_inner(written)
+    }
+}
+
 /// Writes in strictly ascending order of their keys.
 #[derive(Drop)]
 pub(crate) struct Writes {
-    items: Vec<Written>,
+    alloc: Global,
+    items: Vec<Kept>,
+    /// Room for the list of them, so that it takes no memory.
+    room: Vec<Written>,
 }
 
 impl Model for Writes {
-    ghost use Rattle.std.specs.Prelude.{List as Listed};
+    ghost use Rattle.std.specs.Prelude.{◌≡◌, ◌≤◌, [], List as Listed, vec_len, vec_capacity};
     ghost use Rattle.world_cells.specs.declared.sets.Written.{Written};
     ghost use Rattle.view_reads.specs.Places.{AreSorted};
 
@@ -31,7 +81,7 @@ impl Model for Writes {
 
     ghost view = { λ w. w.items.items };
 
-    ghost invariant = { λ w. AreSorted w.items.items };
+    ghost invariant = { λ w. AreSorted w.items.items × (w.room.items ≡ []) × (vec_len w.items ≤ vec_capacity w.room) };
 }
 
 impl Writes {
@@ -40,7 +90,9 @@ impl Writes {
         ensures { result ≡ [] }
     {
         Writes {
+            alloc,
             items: Vec::new(alloc),
+            room: Vec::new(alloc),
         }
     }
 
@@ -56,7 +108,7 @@ impl Writes {
         ensures { option_map (λ w. w.now.cell) result ≡ find cell_key_cmp key.now (entries_of self.now) }
     {
         match place_of(&self.items, key) {
-            Ok(at) => Some(&self.items[at]),
+            Ok(at) => Some(written_at(&self.items, at)),
             Err(_) => None,
         }
     }
@@ -77,7 +129,9 @@ impl Writes {
         ensures ok { OnOk result (Wrote self.old key cell self.new) }
         ensures err { OnErr result (self.new ≡ self.old) }
     {
-        write_cell(&mut self.items, key, cell)
+        let more = self.items.len().saturating_add(1);
+        self.room.reserve(more)?;
+        write_cell(self.alloc, &mut self.items, key, cell)
     }
 
     /// Writes cells over those that are there, all of them or none. Of two with one key the first counts.
@@ -85,7 +139,9 @@ impl Writes {
         ensures ok { OnOk result (IsOverlaid (overlay nothing self.old) writes (overlay nothing self.new)) }
         ensures err { OnErr result (self.new ≡ self.old) }
     {
-        write_all(&mut self.items, writes)
+        let more = writes.as_slice().len();
+        self.room.reserve(self.items.len().saturating_add(more))?;
+        write_all(self.alloc, &mut self.items, writes)
     }
 
     /// Leaves no write.
@@ -100,9 +156,45 @@ impl Writes {
         ensures same { result ≡ self }
         ensures rising { AreRisingKeys (map (λ w. w.key) result) }
     {
-        let Writes { items } = self;
-        List::from_vec(items)
+        let Writes {
+            alloc: _,
+            items,
+            room,
+        } = self;
+        List::from_vec(unboxed(items, room))
     }
+}
+
+/// The writes, in room that is there for them.
+fn unboxed(items: Vec<Kept>, room: Vec<Written>) -> Vec<Written>
+    requires empty { room.items ≡ [] }
+    requires room { vec_len items ≤ vec_capacity room }
+    ensures { result.items ≡ items.items }
+{
+    let mut all = room;
+    for item in items {
+        all.push_reserved(item.into_written());
+    }
+    all
+}
+
+/// The writes, each behind a pointer of its own. Its one error is want of memory.
+fn boxed(alloc: Global, writes: List<Written>) -> Result<Vec<Kept>, NoMemory>
+    ensures { IfOk result (λ kept. kept.items ≡ writes) }
+{
+    let mut kept = Vec::with_capacity(alloc, writes.as_slice().len())?;
+    for written in writes.into_vec() {
+        kept.push(Kept::new(alloc, written)?)?;
+    }
+    Ok(kept)
+}
+
+/// The write at a place.
+fn written_at(writes: &[Kept], at: usize) -> &Written
+    requires { at < length writes.now }
+    ensures { result.now ≡ get_or writes.now at result.now }
+{
+    writes[at].written()
 }
 
 /// What a write puts, if anything.
@@ -116,7 +208,7 @@ fn put_of(written: &Written) -> Option<(&CellKey, &Cell)>
 }
 
 /// How many of the writes stand before a span, or, where the span is to be passed too, not behind it, by halves.
-fn passed(writes: &[Written], whole: bool, span: &Span) -> usize
+fn passed(writes: &[Kept], whole: bool, span: &Span) -> usize
     requires { AreSorted writes.now }
     ensures { IsSplit whole span.now writes.now result }
 {
@@ -124,7 +216,7 @@ fn passed(writes: &[Written], whole: bool, span: &Span) -> usize
     let mut high = writes.len();
     while low < high {
         let middle = low + (high - low) / 2;
-        if is_passed(whole, span, &writes[middle].key) {
+        if is_passed(whole, span, &written_at(writes, middle).key) {
             low = middle + 1;
         } else {
             high = middle;
@@ -134,13 +226,13 @@ fn passed(writes: &[Written], whole: bool, span: &Span) -> usize
 }
 
 /// The first cell that is put into a span.
-fn first_put<'a>(writes: &'a [Written], span: &Span) -> Option<(&'a CellKey, &'a Cell)>
+fn first_put<'a>(writes: &'a [Kept], span: &Span) -> Option<(&'a CellKey, &'a Cell)>
     requires { AreSorted writes.now }
     ensures { IsMet false (overlay nothing writes.now) span.now (option_map pair_now result) }
 {
     let mut at = passed(writes, false, span);
     while at < writes.len() {
-        let written = &writes[at];
+        let written = written_at(writes, at);
         if !in_span(span, &written.key) {
             return None;
         }
@@ -153,14 +245,14 @@ fn first_put<'a>(writes: &'a [Written], span: &Span) -> Option<(&'a CellKey, &'a
 }
 
 /// The last cell that is put into a span.
-fn last_put<'a>(writes: &'a [Written], span: &Span) -> Option<(&'a CellKey, &'a Cell)>
+fn last_put<'a>(writes: &'a [Kept], span: &Span) -> Option<(&'a CellKey, &'a Cell)>
     requires { AreSorted writes.now }
     ensures { IsMet true (overlay nothing writes.now) span.now (option_map pair_now result) }
 {
     let mut at = passed(writes, true, span);
     while at > 0 {
         at -= 1;
-        let written = &writes[at];
+        let written = written_at(writes, at);
         if !in_span(span, &written.key) {
             return None;
         }
@@ -172,7 +264,7 @@ fn last_put<'a>(writes: &'a [Written], span: &Span) -> Option<(&'a CellKey, &'a 
 }
 
 /// The place of a key, or else the place where it would stand, by halves.
-fn place_of(writes: &[Written], key: &CellKey) -> Result<usize, usize>
+fn place_of(writes: &[Kept], key: &CellKey) -> Result<usize, usize>
     requires { AreSorted writes.now }
     ensures { MatchResult result (IsThere writes.now key.now) (IsBetween writes.now key.now) }
 {
@@ -180,7 +272,7 @@ fn place_of(writes: &[Written], key: &CellKey) -> Result<usize, usize>
     let mut high = writes.len();
     while low < high {
         let middle = low + (high - low) / 2;
-        match key.cmp(&writes[middle].key) {
+        match key.cmp(&written_at(writes, middle).key) {
             Ordering::Less => high = middle,
             Ordering::Equal => return Ok(middle),
             Ordering::Greater => low = middle + 1,
@@ -189,39 +281,46 @@ fn place_of(writes: &[Written], key: &CellKey) -> Result<usize, usize>
     Err(low)
 }
 
-fn write_cell(writes: &mut Vec<Written>, key: CellKey, cell: Option<Cell>) -> Result<(), NoMemory>
+/// Writes a cell, or with none removes what stands at the key. Its one error is want of memory, after which nothing has changed.
+fn write_cell(
+    alloc: Global,
+    writes: &mut Vec<Kept>,
+    key: CellKey,
+    cell: Option<Cell>,
+) -> Result<(), NoMemory>
     requires { AreSorted writes.old.items }
     ensures ok { OnOk result (Wrote writes.old.items key cell writes.new.items) }
     ensures err { OnErr result (writes.new.items ≡ writes.old.items) }
+    ensures len { vec_len writes.new ≤ vec_len writes.old + 1 }
 {
     match place_of(writes, &key) {
         Ok(at) => {
-            let written = &mut writes[at];
-            written.cell = cell;
+            writes[at].set_cell(cell);
             Ok(())
         }
         Err(at) => {
-            writes.insert(at, Written { key, cell })?;
+            let kept = Kept::new(alloc, Written { key, cell })?;
+            writes.insert(at, kept)?;
             Ok(())
         }
     }
 }
 
 /// Writes a cell where there is room for one more.
-fn write_in_room(writes: &mut Vec<Written>, key: CellKey, cell: Option<Cell>)
+fn write_in_room(writes: &mut Vec<Kept>, kept: Kept)
     requires sorted { AreSorted writes.old.items }
     requires room { vec_len writes.old < vec_capacity writes.old }
-    ensures wrote { Wrote writes.old.items key cell writes.new.items }
+    ensures wrote { Wrote writes.old.items kept.key kept.cell writes.new.items }
     ensures len { vec_len writes.new ≤ vec_len writes.old + 1 }
     ensures capacity { vec_capacity writes.old ≤ vec_capacity writes.new }
 {
-    match place_of(writes, &key) {
+    match place_of(writes, &kept.written().key) {
         Ok(at) => {
-            let written = &mut writes[at];
-            written.cell = cell;
+            let Written { key: _, cell } = kept.into_written();
+            writes[at].set_cell(cell);
         }
         Err(at) => {
-            let Ok(()) = writes.insert(at, Written { key, cell }) else {
+            let Ok(()) = writes.insert(at, kept) else {
                 unreachable!()
             };
         }
@@ -229,16 +328,17 @@ fn write_in_room(writes: &mut Vec<Written>, key: CellKey, cell: Option<Cell>)
 }
 
 /// Writes cells from the last to the first, all of them or none.
-fn write_all(writes: &mut Vec<Written>, new: List<Written>) -> Result<(), NoMemory>
+fn write_all(alloc: Global, writes: &mut Vec<Kept>, new: List<Written>) -> Result<(), NoMemory>
     requires { AreSorted writes.old.items }
     ensures sorted { AreSorted writes.new.items }
     ensures ok { OnOk result (IsOverlaid (overlay nothing writes.old.items) new (overlay nothing writes.new.items)) }
     ensures err { OnErr result (writes.new.items ≡ writes.old.items) }
+    ensures len { vec_len writes.new ≤ vec_len writes.old + length new }
 {
     writes.reserve(new.as_slice().len())?;
-    let mut left = new.into_vec();
-    while let Some(written) = left.pop() {
-        write_in_room(writes, written.key, written.cell);
+    let mut left = boxed(alloc, new)?;
+    while let Some(kept) = left.pop() {
+        write_in_room(writes, kept);
     }
     Ok(())
 }
