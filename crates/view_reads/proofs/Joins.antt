@@ -1,8 +1,8 @@
 -- What a part and the one that goes on where it ended cover together.
 use Rattle.std.proofs.Common.{◌≡◌, inl, inr, ℕ, ◌+◌, ◌-◌, List, [], ◌∷◌, ◌++◌, length, refl, sym, ap, subst, ◌∙◌, Bool, true, false, Option, Some, None, zero, suc, length-append, arith}
-use Rattle.std.specs.Prelude.{cond, IsTrue, not, ◌&&◌, ◌||◌, ◌==◌, slice_get, slice_set as set, slice_index_or, ⊤}
+use Rattle.std.specs.Prelude.{cond, IsTrue, not, ◌&&◌, ◌||◌, ◌==◌, slice_get, slice_set as set, slice_index_or}
 use Rattle.std.specs.Bool.{beq}
-use Rattle.std.specs.Option.{option_map_or, option_to_list, MatchOption}
+use Rattle.std.specs.Option.{option_map_or}
 use Rattle.std.specs.List.{list_any}
 use Rattle.std.proofs.lemmas.List.Folds.{list_any-append}
 use Rattle.ident_rules.specs.declared.key.Key.{Key}
