@@ -1,5 +1,5 @@
 -- A tree that is filled from the last cell to the first.
-use Rattle.std.proofs.Common.{◌≡◌, List, [], ◌∷◌, ◌++◌, map, true, ap, subst, sym, ◌∙◌, Some, append_assoc}
+use Rattle.std.proofs.Common.{◌≡◌, List, [], ◌∷◌, ◌++◌, map, true, ap, subst, ◌∙◌, Some, append_assoc}
 use Rattle.std.specs.Ordering.{is_lt}
 use Rattle.world_cells.specs.declared.keys.CellKey.{CellKey}
 use Rattle.world_cells.specs.CellOrder.{cell_key_cmp}

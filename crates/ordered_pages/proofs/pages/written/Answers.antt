@@ -1,9 +1,5 @@
-use Rattle.std.proofs.Common.{sym, ap, subst, ◌∙◌, ◌++◌, ◌∷◌, [], List}
-use Rattle.std.specs.Arc.{arc_value}
+use Rattle.std.proofs.Common.{sym, ap, ◌∙◌, ◌++◌, ◌∷◌, []}
 use Rattle.world_cells.specs.declared.keys.CellKey.{CellKey}
-use Rattle.ordered_pages.specs.Entries.{Entry}
-use Rattle.ordered_pages.specs.Tree.{leaves_of, map_of}
-use Rattle.ordered_pages.specs.Changed.{IsWritten}
 use Rattle.ordered_pages.proofs.Prepared.{step_none, step_some}
 use Rattle.ordered_pages.proofs.pages.written.Goals as goal
 

@@ -1,4 +1,4 @@
-use Rattle.std.proofs.Common.{map, subst, List}
+use Rattle.std.proofs.Common.{subst, List}
 use Rattle.std.specs.Arc.{arc_value}
 use Rattle.ordered_pages.specs.Few.{nodes_of}
 use Rattle.ordered_pages.specs.Changed.{IsChangedIn}

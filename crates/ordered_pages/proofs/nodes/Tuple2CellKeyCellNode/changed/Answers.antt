@@ -1,4 +1,4 @@
-use Rattle.std.proofs.Common.{sym, ap, ◌∙◌, map}
+use Rattle.std.proofs.Common.{sym, ap, ◌∙◌}
 use Rattle.std.specs.Arc.{arc_value}
 use Rattle.ordered_pages.specs.Few.{nodes_of}
 use Rattle.world_cells.specs.CellOrder.{cell_key_cmp}

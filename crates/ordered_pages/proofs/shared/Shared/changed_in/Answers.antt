@@ -1,4 +1,4 @@
-use Rattle.std.proofs.Common.{sym, subst, arith, map}
+use Rattle.std.proofs.Common.{sym, subst, arith}
 use Rattle.std.specs.Arc.{arc_value}
 use Rattle.ordered_pages.specs.Few.{nodes_of}
 use Rattle.ordered_pages.specs.Entries.{passes}
