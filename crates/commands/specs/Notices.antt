@@ -5,9 +5,11 @@ use Rattle.std.specs.Str.{bytes_eq}
 abbrev pub help_text : List ℕ
 help_text =
     codes "usage: jsonapid pipe [PATH]" ++ 10
+    ∷ codes "       jsonapid serve PATH ADDRESS WORKERS QUOTA" ++ 10
     ∷ codes "       jsonapid replay" ++ 10
     ∷ codes "       jsonapid workload N SEED" ++ 10 ∷ 10
     ∷ codes "pipe serves one connection of HTTP/1.1 from standard input to standard output, over a store that begins empty: of notes, or of the types of the schema file PATH." ++ 10
+    ∷ codes "serve serves the types of the schema file PATH at a socket, on one store that begins empty: WORKERS connections at a time, 1 to 64, until each worker has served QUOTA of them, 1 to 1000000." ++ 10
     ∷ codes "replay reads a script from standard input, takes its steps over connections that share one store, and reports the history that they made." ++ 10
     ∷ codes "workload makes ten people and N requests that SEED draws, 1 to 100000, serves them over a blog that begins empty, and prints what was counted." ++ 10 ∷ []
 

@@ -8,7 +8,7 @@ use ident_rules::Text;
 fn help_text() -> &'static str
     ensures { result.now ≡ help_text }
 {
-    "usage: jsonapid pipe [PATH]\n       jsonapid replay\n       jsonapid workload N SEED\n\npipe serves one connection of HTTP/1.1 from standard input to standard output, over a store that begins empty: of notes, or of the types of the schema file PATH.\nreplay reads a script from standard input, takes its steps over connections that share one store, and reports the history that they made.\nworkload makes ten people and N requests that SEED draws, 1 to 100000, serves them over a blog that begins empty, and prints what was counted.\n"
+    "usage: jsonapid pipe [PATH]\n       jsonapid serve PATH ADDRESS WORKERS QUOTA\n       jsonapid replay\n       jsonapid workload N SEED\n\npipe serves one connection of HTTP/1.1 from standard input to standard output, over a store that begins empty: of notes, or of the types of the schema file PATH.\nserve serves the types of the schema file PATH at a socket, on one store that begins empty: WORKERS connections at a time, 1 to 64, until each worker has served QUOTA of them, 1 to 1000000.\nreplay reads a script from standard input, takes its steps over connections that share one store, and reports the history that they made.\nworkload makes ten people and N requests that SEED draws, 1 to 100000, serves them over a blog that begins empty, and prints what was counted.\n"
 }
 
 /// What `--version` prints.
